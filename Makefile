@@ -1,0 +1,16 @@
+# make sample: judges the sample sheets.  make test: all tests and proofs.  make archive: the C archive, with its proofs.
+ARCHIVE = target/staticlib/libbeltuqash.a
+CFLAGS = -std=c11 -O2 -Wall -Wextra -Werror
+
+.PHONY: archive sample test
+
+archive:
+	@mkdir -p target
+	@rt staticlib beltuqash > target/archive.log 2>&1 || { cat target/archive.log; exit 1; }
+
+sample: archive
+	@$(CC) $(CFLAGS) -Iinclude examples/judge.c $(ARCHIVE) -o target/judge
+	@target/judge examples/*.sheet
+
+test:
+	@.ci/run

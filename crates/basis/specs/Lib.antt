@@ -1,0 +1,3 @@
+-- Definitions that several crates share.
+pub mod Bytes
+pub mod Tests

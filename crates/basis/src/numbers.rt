@@ -1,0 +1,16 @@
+// What comes back, by document 01's table: the number of each refusal, and 0 for none.
+pub const DONE: u8 = 0;
+
+pub const SHEET_LENGTH: u8 = 1;
+
+pub const COUNT_OUTSIDE: u8 = 2;
+
+pub const LEVELS_WRONG: u8 = 3;
+
+pub const NAME_WRONG: u8 = 4;
+
+pub const NODE_WRONG: u8 = 5;
+
+pub const NOT_USED_ONCE: u8 = 6;
+
+pub const TOO_DEEP: u8 = 7;

@@ -1,0 +1,2 @@
+-- That the contracts leave one answer.
+pub mod Unique

@@ -1,0 +1,3 @@
+-- What a call answers, and what each call does.
+pub mod Answer
+pub mod Calls

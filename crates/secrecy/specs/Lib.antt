@@ -1,0 +1,2 @@
+-- Theorems about the whole, over the definitions that the exported calls cite.
+pub mod Trials

@@ -1,0 +1,97 @@
+-- The array of uses holds what is counted, up to two.
+use Prim.Native.Nat.{ℕ, zero, suc, _+_, _≤_, _<_}
+use native.Mathlib.Omega.{arith}
+use native.Mathlib.Nat.{add-zero}
+use native.Mathlib.Numerals.{add-one}
+use mathlib.Core.Path.{_≡_, refl, sym, ap, _∙_}
+use mathlib.Core.Bool.{Bool, true, false, cond, _&&_}
+use mathlib.Core.List.{List}
+use borrow.Author.Tests.{eqb-true, eqb-false, ne-eqb}
+use lib.Dec.{eqb}
+use lib.ListN.{length, getD, set, replicate, length-set}
+use lib.Seq.{getD-set-same, getD-set-other}
+use Rattle.sheet.specs.Nodes.{kindAt, placeAt, heldIn, isChild}
+use Rattle.sheet.specs.Uses.{usesIn, usesBelow}
+use Rattle.sheet.specs.Counting.{upToTwo, counted, countedPlaces}
+
+-- a count up to two is 1 exactly where the count is
+pub once-up-to-two : (uses : ℕ) → eqb (upToTwo uses) 1 ≡ eqb uses 1
+unfolding upToTwo
+once-up-to-two zero = refl
+once-up-to-two (suc zero) = refl
+once-up-to-two (suc (suc uses)) = sym (ne-eqb (suc (suc uses)) 1 (λ h. omega arith))
+
+more : (uses : ℕ) → cond (eqb (upToTwo uses) 0) 1 2 ≡ upToTwo (uses + 1)
+unfolding upToTwo
+more zero = refl
+more (suc zero) = refl
+more (suc (suc uses)) = rw (add-one (suc (suc uses)))
+
+-- a node counted once more
+pub counted-length : (w : ℕ) (used : List ℕ) → length (counted w used) ≡ length used
+unfolding counted
+counted-length w used = length-set used w _
+
+counts : (w : ℕ) (used : List ℕ) (c uses : ℕ) → w < length used → getD used c 0 ≡ upToTwo uses → getD (counted w used) c 0 ≡ upToTwo (uses + cond (eqb w c) 1 0)
+unfolding counted
+counts w used c uses inside e = go (eqb w c) refl
+  where
+    go : (b : Bool) → eqb w c ≡ b → getD (set used w (cond (eqb (getD used w 0) 0) 1 2)) c 0 ≡ upToTwo (uses + cond b 1 0)
+    go true q =
+        let at : c ≡ w = sym (eqb-true w c q) in
+        rw at (getD-set-same used w _ 0 inside ∙ ap (λ (n : ℕ). cond (eqb n 0) 1 2) (rw at at e) ∙ more uses)
+    go false q = getD-set-other used w c _ 0 (λ at. eqb-false w c q (sym at)) ∙ e ∙ ap upToTwo (sym (add-zero uses))
+
+module _ (s : List ℕ) (n : ℕ) where
+  -- the children in k places, and in one more
+  pub no-places : (used : List ℕ) → countedPlaces s n 0 used ≡ used
+  unfolding countedPlaces
+  no-places used = refl
+
+  pub one-child : (k : ℕ) (used : List ℕ) → isChild (heldIn (kindAt s n) k) ≡ true → counted (placeAt s n k) (countedPlaces s n k used) ≡ countedPlaces s n (k + 1) used
+  unfolding countedPlaces
+  one-child k used e = rw (add-one k) (rw e)
+
+  pub no-child : (k : ℕ) (used : List ℕ) → isChild (heldIn (kindAt s n) k) ≡ false → countedPlaces s n k used ≡ countedPlaces s n (k + 1) used
+  unfolding countedPlaces
+  no-child k used e = rw (add-one k) (rw e)
+
+  pub places-length : (k : ℕ) (used : List ℕ) → length (countedPlaces s n k used) ≡ length used
+  unfolding countedPlaces
+  places-length zero used = refl
+  places-length (suc k) used = go (isChild (heldIn (kindAt s n) k)) (places-length k used)
+    where
+      go : (b : Bool) → length (countedPlaces s n k used) ≡ length used → length (cond b (counted (placeAt s n k) (countedPlaces s n k used)) (countedPlaces s n k used)) ≡ length used
+      go true h = counted-length _ _ ∙ h
+      go false h = h
+
+  module _ (used : List ℕ) (inside : (k : ℕ) → k < 3 → isChild (heldIn (kindAt s n) k) ≡ true → placeAt s n k < length used) where
+    pub places-count : (k c uses : ℕ) → k ≤ 3 → getD used c 0 ≡ upToTwo uses → getD (countedPlaces s n k used) c 0 ≡ upToTwo (uses + usesIn s n k c)
+    unfolding countedPlaces usesIn
+    places-count zero c uses h e = e ∙ ap upToTwo (sym (add-zero uses))
+    places-count (suc k) c uses h e = go (isChild (heldIn (kindAt s n) k)) refl (places-count k c uses (omega arith) e)
+      where
+        sum : (a b : ℕ) → uses + a + b ≡ uses + (a + b)
+        sum a b = omega arith
+
+        go : (b : Bool) → isChild (heldIn (kindAt s n) k) ≡ b → getD (countedPlaces s n k used) c 0 ≡ upToTwo (uses + usesIn s n k c)
+            → getD (cond b (counted (placeAt s n k) (countedPlaces s n k used)) (countedPlaces s n k used)) c 0 ≡ upToTwo (uses + (usesIn s n k c + cond (b && eqb (placeAt s n k) c) 1 0))
+        go true child ih =
+            counts (placeAt s n k) (countedPlaces s n k used) c (uses + usesIn s n k c) (rw (places-length k used) (inside k (omega arith) child)) ih
+            ∙ ap upToTwo (sum (usesIn s n k c) _)
+        go false child ih = ih ∙ ap (λ (m : ℕ). upToTwo (uses + m)) (sym (add-zero (usesIn s n k c)))
+
+-- the nodes counted so far, and one more
+pub none-counted : (s : List ℕ) (c : ℕ) → upToTwo (usesBelow s 0 c) ≡ 0
+unfolding upToTwo usesBelow
+none-counted s c = refl
+
+pub one-counted : (s : List ℕ) (n c : ℕ) → usesBelow s n c + usesIn s n 3 c ≡ usesBelow s (n + 1) c
+unfolding usesBelow
+one-counted s n c = rw (add-one n)
+
+-- an array of zeros
+pub zeros : (n c : ℕ) → _≡_ {A = ℕ} (getD (replicate n 0) c 0) 0
+zeros zero c = refl
+zeros (suc n) zero = refl
+zeros (suc n) (suc c) = zeros n c

@@ -1,0 +1,10 @@
+-- For other crates: `Loading.loaded` (what a sheet has that passes) and `Trees` (the tree at a node, one law a kind). The others serve the proofs of
+-- this crate: checks in order, the sections' parts, the kinds' places, nodes judged, uses counted, depths.
+pub mod Verdicts
+pub mod Parts
+pub mod Places
+pub mod Judged
+pub mod Trees
+pub mod Depths
+pub mod Counted
+pub mod Loading

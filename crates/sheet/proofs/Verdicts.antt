@@ -1,0 +1,39 @@
+-- Checks in order: what passes, and what is told first.
+use mathlib.Core.Path.{_≡_, refl, sym, ap, _∙_}
+use mathlib.Core.Bool.{Bool, true, false, cond, true≢false}
+use Rattle.sheet.specs.Verdict.{passesOf, _then_, told}
+use Rattle.sheet.specs.declared.verdict.Verdict.{Verdict}
+use Rattle.sheet.specs.declared.verdict.Verdict.the-variants.{Passes, Length, Count, Levels, Name, Node, Uses, Depth}
+
+-- only `Passes` has number 0
+pub passes-is : (v : Verdict) → passesOf v ≡ true → v ≡ Passes
+passes-is Passes e = refl
+passes-is Length e = absurd (true≢false (sym e))
+passes-is Count e = absurd (true≢false (sym e))
+passes-is Levels e = absurd (true≢false (sym e))
+passes-is Name e = absurd (true≢false (sym e))
+passes-is (Node fault n) e = absurd (true≢false (sym e))
+passes-is Uses e = absurd (true≢false (sym e))
+passes-is Depth e = absurd (true≢false (sym e))
+
+module _ (v w : Verdict) where
+  pub then-next : v ≡ Passes → (v then w) ≡ w
+  unfolding _then_
+  then-next e = rw e
+
+  pub then-first : passesOf v ≡ false → (v then w) ≡ v
+  unfolding _then_
+  then-first e = rw e
+
+  pub both-pass : (v then w) ≡ Passes → (v ≡ Passes) × (w ≡ Passes)
+  unfolding _then_
+  both-pass e = go (passesOf v) refl e
+    where
+      go : (b : Bool) → passesOf v ≡ b → cond b w v ≡ Passes → (v ≡ Passes) × (w ≡ Passes)
+      go true p e = (passes-is v p, e)
+      go false p e = absurd (true≢false (sym (ap passesOf e) ∙ p))
+
+-- a check that passes
+pub told-right : (right : Bool) (v : Verdict) → passesOf v ≡ false → told right v ≡ Passes → right ≡ true
+told-right true v r e = refl
+told-right false v r e = absurd (true≢false (sym (ap passesOf e) ∙ r))

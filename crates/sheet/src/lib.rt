@@ -1,0 +1,48 @@
+// Judges a sheet's bytes: its four sections, their counts and entries, the tree that its nodes make. The checks stand in document 01's order.
+pub mod depth;
+pub mod names;
+pub mod nodes;
+pub mod sections;
+pub mod uses;
+pub mod verdict;
+
+use nodes::kind_of;
+use verdict::Verdict;
+use verdict::passes;
+ghost use mathlib.Core.Path.{_≡_};
+ghost use Rattle.sheet.specs.Load.{loadOf};
+
+// Judges a sheet: the first check that refuses it, or none.
+pub fn load(sheet: &[u8]) -> Verdict
+    ensures { λ r. ⌜ r ≡ loadOf (now (sheet .entry)) ⌝ }
+{
+    let layout = sections::judge_sections(sheet);
+    if !passes(layout) {
+        return layout;
+    }
+    if !levels::right(sections::levels(sheet)) {
+        return Verdict::Levels;
+    }
+    let fields = sections::fields(sheet);
+    if !names::names_right(fields) {
+        return Verdict::Name;
+    }
+    let constants = sections::constants(sheet);
+    let nodes = sections::nodes(sheet);
+    let faults = nodes::judge_nodes(nodes, fields.len() / 8, constants.len() / 4);
+    if !passes(faults) {
+        return faults;
+    }
+    if !uses::used_once(nodes) {
+        return Verdict::Uses;
+    }
+    let last = nodes.len() / 8 - 1;
+    if kind_of(nodes, last) <= 4 {
+        return Verdict::Uses;
+    }
+    if depth::fits(&nodes, last, 64) {
+        Verdict::Passes
+    } else {
+        Verdict::Depth
+    }
+}

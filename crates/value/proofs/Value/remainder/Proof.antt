@@ -1,0 +1,25 @@
+-- Past the test the divisor is not 0, and 64 bits hold the quotient, which `%` asks, and the remainder.
+use borrow.Author.Needs.{needs}
+use mathlib.Core.Path.{ap, _∙_}
+use Rattle.value.specs.Values.{exactly, remainderOf}
+use Rattle.value.proofs.Wide.{holds-fits, held, result}
+use Rattle.value.proofs.Sizes.{quot-fits, rem-fits}
+use Rattle.value.proofs.Comparing.{zero-yes, zero-no}
+use Rattle.value.proofs.Value.remainder.Statement.{statement}
+use Rattle.value.proofs.Value.remainder.Tie as tie
+
+returns : tie.Need-returns
+unfolding remainderOf
+returns c = rw (zero-yes (c .before .wide .ensures) (c .if1 .taken))
+
+rem-exact : tie.Need-rem-exact
+rem-exact c = (search needs, holds-fits (result quot-fits (c .wide2 .ensures) (c .before .before .wide .ensures)))
+
+returns-2 : tie.Need-returns-2
+unfolding remainderOf
+returns-2 c =
+    let d = c .before .before .before .wide .ensures in
+    rw (zero-no d (c .before .before .if1 .left)) (c .exact .ensures ∙ ap exactly (held (result rem-fits (c .before .wide2 .ensures) d)))
+
+pub remainder-spec : {M : Type 1} → statement M
+remainder-spec = tie.close (tie.spec (λ c κs. search needs) returns (λ c κs. search needs) rem-exact (λ c κs. search needs) returns-2)

@@ -1,0 +1,132 @@
+//! Damaged sheets: a valid sheet with one to three damages. Most damages bring
+//! about one number for certain, and then the number of the whole is known: the
+//! lowest, as long as no other damage can have undone or overtaken it.
+
+mod bytes;
+mod counts;
+mod levels;
+mod names;
+mod nodes;
+mod tree;
+
+use super::write::Written;
+use super::{valid, Case};
+use crate::model::number;
+use crate::model::sheet::Sheet;
+use crate::random::Random;
+use std::cmp::Reverse;
+
+/// How a damage is done; false if it doesn't fit the sheet, which then stays.
+#[derive(Clone, Copy)]
+enum Change {
+    /// To the typed sheet.
+    Sheet(fn(&mut Sheet, &mut Random) -> bool),
+    /// To the written bytes.
+    Bytes(fn(&mut Written, &mut Random) -> bool),
+}
+
+/// One way to damage a sheet.
+#[derive(Clone, Copy)]
+pub struct Damage {
+    pub name: &'static str,
+    /// The number that it brings about, if it is sure to.
+    pub number: Option<u8>,
+    change: Change,
+}
+
+impl Damage {
+    const fn to_sheet(
+        name: &'static str,
+        number: u8,
+        change: fn(&mut Sheet, &mut Random) -> bool,
+    ) -> Damage {
+        Damage {
+            name,
+            number: Some(number),
+            change: Change::Sheet(change),
+        }
+    }
+
+    const fn to_bytes(
+        name: &'static str,
+        number: u8,
+        change: fn(&mut Written, &mut Random) -> bool,
+    ) -> Damage {
+        Damage {
+            name,
+            number: Some(number),
+            change: Change::Bytes(change),
+        }
+    }
+
+    const fn unsure(name: &'static str, change: Change) -> Damage {
+        Damage {
+            name,
+            number: None,
+            change,
+        }
+    }
+
+    fn is_to_bytes(&self) -> bool {
+        matches!(self.change, Change::Bytes(_))
+    }
+}
+
+/// All damages, by the number that they bring about, the unsure ones last.
+pub const GROUPS: [&[Damage]; 10] = [
+    bytes::LENGTHS,
+    counts::COUNTS,
+    levels::LEVELS,
+    names::NAMES,
+    nodes::NODES,
+    tree::USES,
+    tree::DEPTHS,
+    levels::UNSURE,
+    nodes::UNSURE,
+    bytes::UNSURE,
+];
+
+/// A valid sheet with one to three damages from any groups.
+pub fn damaged(random: &mut Random) -> Case {
+    let mut damages = Vec::new();
+    for _ in 0..random.pick(&[1, 1, 2, 3]) {
+        let group = random.pick(&GROUPS);
+        damages.push(random.pick(group));
+    }
+    with_damages(damages, random)
+}
+
+/// A valid sheet with these damages: the sheet's before the bytes', unsure ones
+/// first, then from the highest number down.
+pub fn with_damages(mut damages: Vec<Damage>, random: &mut Random) -> Case {
+    damages.sort_by_key(|damage| {
+        let number = damage.number.unwrap_or(u8::MAX);
+        (damage.is_to_bytes(), Reverse(number))
+    });
+    let mut sheet = valid::sheet(random);
+    damages.retain(|damage| match damage.change {
+        Change::Sheet(change) => change(&mut sheet, random),
+        Change::Bytes(_) => true,
+    });
+    let mut written = Written::from(&sheet);
+    damages.retain(|damage| match damage.change {
+        Change::Sheet(_) => true,
+        Change::Bytes(change) => change(&mut written, random),
+    });
+    Case {
+        bytes: written.bytes,
+        expected: expected(&damages),
+    }
+}
+
+/// The number that these damages together are sure to bring about.
+fn expected(damages: &[Damage]) -> Option<u8> {
+    let numbers: Option<Vec<u8>> = damages.iter().map(|damage| damage.number).collect();
+    let numbers = numbers?;
+    let Some(&lowest) = numbers.iter().min() else {
+        return Some(number::DONE);
+    };
+    let times = numbers.iter().filter(|&&number| number == lowest).count();
+    let overtaken = lowest == number::LENGTH && numbers.contains(&number::COUNT);
+    (times == 1 && !overtaken).then_some(lowest)
+}

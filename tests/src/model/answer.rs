@@ -1,0 +1,46 @@
+//! What comes back from a call: a number of the document's table, a place and
+//! the units, and how the three stand in the C archive's answer word.
+
+/// The numbers of the table "What comes back, in order of checks".
+pub mod number {
+    /// Success.
+    pub const DONE: u8 = 0;
+    /// Row 1: sheet ends too soon or has bytes left.
+    pub const LENGTH: u8 = 1;
+    /// Row 2: a count outside its limits.
+    pub const COUNT: u8 = 2;
+    /// Row 3: levels not as above.
+    pub const LEVELS: u8 = 3;
+    /// Row 4: a bad or repeated name.
+    pub const NAME: u8 = 4;
+    /// Row 5: a node's kind, operator, child number, child's sort, index or unused place.
+    pub const NODE: u8 = 5;
+    /// Row 6: a node not used once, or the last not a command.
+    pub const USE: u8 = 6;
+    /// Row 7: depth over 64.
+    pub const DEPTH: u8 = 7;
+}
+
+/// The answer of a call.
+#[derive(Clone, Copy, Debug, PartialEq, Eq)]
+pub struct Answer {
+    pub number: u8,
+    pub place: u16,
+    pub units: u32,
+}
+
+impl Answer {
+    /// The answer with this number whose place and units are 0.
+    pub fn plain(number: u8) -> Answer {
+        Answer {
+            number,
+            place: 0,
+            units: 0,
+        }
+    }
+
+    /// Number in bits 0 to 7, place in bits 8 to 23, units in bits 32 to 63.
+    pub fn word(self) -> u64 {
+        u64::from(self.number) | u64::from(self.place) << 8 | u64::from(self.units) << 32
+    }
+}

@@ -1,0 +1,465 @@
+//! Trials of load from the document: its example, its trials, every limit from
+//! both sides, each part of rows 3 to 7, and the order of the checks. Sheets
+//! are put together here byte by byte, apart from the generator.
+
+use super::*;
+use number::*;
+
+/// A sheet still in parts, each of which a trial may replace.
+struct Parts {
+    rows: Vec<u16>,
+    names: Vec<[u8; 8]>,
+    constants: Vec<i32>,
+    nodes: Vec<[u16; 5]>,
+}
+
+/// Levels 0 and 1, two fields, three constants, a lone skip.
+fn plain() -> Parts {
+    Parts {
+        rows: vec![3, 2],
+        names: vec![name("q"), name("r")],
+        constants: vec![4, 5, 6],
+        nodes: vec![SKIP],
+    }
+}
+
+const CONSTANT: [u16; 5] = [0, 0, 0, 0, 0];
+const FIELD: [u16; 5] = [1, 0, 0, 0, 0];
+const SKIP: [u16; 5] = [5, 0, 0, 0, 0];
+
+impl Parts {
+    fn bytes(&self) -> Vec<u8> {
+        let mut bytes = count(self.rows.len());
+        bytes.extend(self.rows.iter().flat_map(|row| row.to_le_bytes()));
+        bytes.extend(count(self.names.len()));
+        bytes.extend(self.names.iter().flatten());
+        bytes.extend(count(self.constants.len()));
+        bytes.extend(self.constants.iter().flat_map(|value| value.to_le_bytes()));
+        bytes.extend(count(self.nodes.len()));
+        for [kind, operator, a, b, c] in &self.nodes {
+            bytes.extend([*kind as u8, *operator as u8]);
+            bytes.extend([a, b, c].iter().flat_map(|place| place.to_le_bytes()));
+        }
+        bytes
+    }
+}
+
+fn count(entries: usize) -> Vec<u8> {
+    (entries as u16).to_le_bytes().to_vec()
+}
+
+fn name(text: &str) -> [u8; 8] {
+    let mut name = [0; 8];
+    name[..text.len()].copy_from_slice(text.as_bytes());
+    name
+}
+
+#[track_caller]
+fn gives(number: u8, parts: &Parts) {
+    assert_eq!(load(&parts.bytes()), Answer::plain(number));
+}
+
+#[track_caller]
+fn rows_give(number: u8, rows: &[u16]) {
+    let rows = rows.to_vec();
+    gives(number, &Parts { rows, ..plain() });
+}
+
+#[track_caller]
+fn names_give(number: u8, names: &[[u8; 8]]) {
+    let names = names.to_vec();
+    gives(number, &Parts { names, ..plain() });
+}
+
+#[track_caller]
+fn nodes_give(number: u8, nodes: &[[u16; 5]]) {
+    let nodes = nodes.to_vec();
+    gives(number, &Parts { nodes, ..plain() });
+}
+
+/// The sheet of the document's runner paragraph.
+const EXAMPLE: [u8; 56] = [
+    0x02, 0x00, 0x03, 0x00, 0x02, 0x00, 0x01, 0x00, 0x71, 0x00, 0x00, 0x00, 0x00, 0x00, 0x00, 0x00,
+    0x01, 0x00, 0x01, 0x00, 0x00, 0x00, 0x04, 0x00, 0x00, 0x00, 0x00, 0x00, 0x00, 0x00, 0x00, 0x00,
+    0x01, 0x00, 0x00, 0x00, 0x00, 0x00, 0x00, 0x00, 0x02, 0x00, 0x01, 0x00, 0x00, 0x00, 0x00, 0x00,
+    0x06, 0x00, 0x00, 0x00, 0x02, 0x00, 0x00, 0x00,
+];
+
+#[test]
+fn the_documents_example_is_taken_and_read_right() {
+    assert_eq!(load(&EXAMPLE), Answer::plain(DONE));
+    let sheet = Sheet::read(&EXAMPLE).expect("read");
+    assert_eq!(sheet.levels.rows, [3, 2]);
+    assert_eq!(sheet.fields, [name("q")]);
+    assert_eq!(sheet.constants, [1]);
+    assert_eq!(sheet.nodes.len(), 4);
+    assert_eq!(sheet.nodes[2].places, [1, 0, 0]);
+    assert_eq!(sheet.nodes[3].kind, 6);
+    assert_eq!(sheet.nodes[3].places, [0, 2, 0]);
+}
+
+#[test]
+fn answer_words_hold_number_place_and_units() {
+    let answer = Answer {
+        number: 0x12,
+        place: 0x3456,
+        units: 0x789a_bcde,
+    };
+    assert_eq!(answer.word(), 0x789a_bcde_0034_5612);
+}
+
+#[test]
+fn every_cut_and_every_byte_left_is_1() {
+    for end in 0..EXAMPLE.len() {
+        assert_eq!(load(&EXAMPLE[..end]), Answer::plain(LENGTH), "cut at {end}");
+    }
+    for left in [1, 2, 8, 65_536] {
+        let mut longer = EXAMPLE.to_vec();
+        longer.resize(EXAMPLE.len() + left, 0);
+        assert_eq!(load(&longer), Answer::plain(LENGTH), "{left} bytes left");
+    }
+}
+
+#[test]
+fn lengths_and_counts_come_in_byte_order() {
+    let answers: [(&[u8], u8); 9] = [
+        (&[], LENGTH),
+        (&[17], LENGTH),
+        (&[17, 0], COUNT),
+        (&[0, 0], COUNT),
+        (&[1, 1], COUNT),
+        (&[2, 0, 3, 0], LENGTH),
+        // The rows are cut, so the next count, 0, is never reached.
+        (&[2, 0, 3, 0, 0], LENGTH),
+        (&[1, 0, 1, 0, 65, 0], COUNT),
+        // Bad rows do not come before the bad count behind them.
+        (&[1, 0, 0, 0, 0, 0], COUNT),
+    ];
+    for (bytes, number) in answers {
+        assert_eq!(load(bytes), Answer::plain(number), "{bytes:?}");
+    }
+}
+
+#[test]
+fn a_bad_count_comes_before_the_end_behind_it() {
+    let mut cut = EXAMPLE[..24].to_vec();
+    cut[22..24].copy_from_slice(&1025_u16.to_le_bytes());
+    assert_eq!(load(&cut), Answer::plain(COUNT));
+    cut.pop();
+    assert_eq!(load(&cut), Answer::plain(LENGTH));
+}
+
+fn chain(levels: usize) -> Vec<u16> {
+    (0..levels).map(|i| (0xffff_u32 << i) as u16).collect()
+}
+
+fn chain_within(levels: usize) -> Vec<u16> {
+    let within = ((1_u32 << levels) - 1) as u16;
+    chain(levels).iter().map(|row| row & within).collect()
+}
+
+#[test]
+fn one_to_sixteen_levels() {
+    rows_give(COUNT, &[]);
+    for levels in 1..=16 {
+        rows_give(DONE, &chain_within(levels));
+    }
+    rows_give(COUNT, &chain(17));
+}
+
+#[test]
+fn one_to_sixty_four_fields() {
+    let names: Vec<_> = (0..65).map(|i| name(&format!("f{i}"))).collect();
+    names_give(COUNT, &names[..0]);
+    names_give(DONE, &names[..1]);
+    names_give(DONE, &names[..64]);
+    names_give(COUNT, &names);
+}
+
+#[test]
+fn none_to_256_constants() {
+    for (constants, number) in [(0, DONE), (1, DONE), (256, DONE), (257, COUNT)] {
+        let constants = vec![-1; constants];
+        gives(
+            number,
+            &Parts {
+                constants,
+                ..plain()
+            },
+        );
+    }
+}
+
+/// A path of commands: `depth` deep, each sequence with a skip on one side.
+fn sequences(depth: u16) -> Vec<[u16; 5]> {
+    let mut nodes = vec![SKIP];
+    for _ in 1..depth {
+        let under = nodes.len() as u16 - 1;
+        nodes.push(SKIP);
+        nodes.push([7, 0, under, under + 1, 0]);
+    }
+    nodes
+}
+
+/// An assignment of nested nots: `depth` deep and as many nodes.
+fn nots(depth: u16) -> Vec<[u16; 5]> {
+    let mut nodes = vec![CONSTANT];
+    nodes.extend((0..depth - 2).map(|under| [3, 0, under, 0, 0]));
+    nodes.push([6, 0, 0, depth - 2, 0]);
+    nodes
+}
+
+/// A sequence tree with this many skips, as shallow as can be.
+fn bushy(skips: u16) -> Vec<[u16; 5]> {
+    let mut nodes = vec![SKIP; usize::from(skips)];
+    for pair in 0..skips - 1 {
+        nodes.push([7, 0, 2 * pair, 2 * pair + 1, 0]);
+    }
+    nodes
+}
+
+#[test]
+fn one_to_1024_nodes() {
+    nodes_give(COUNT, &[]);
+    nodes_give(DONE, &[SKIP]);
+    nodes_give(DONE, &bushy(512));
+    nodes_give(COUNT, &bushy(513));
+    let mut nodes = bushy(511);
+    nodes.extend([CONSTANT, [9, 0, 1021, 1020, 0]]);
+    nodes_give(DONE, &nodes);
+    nodes.extend([SKIP, [7, 0, 1022, 1023, 0]]);
+    nodes_give(COUNT, &nodes);
+    let mut nodes = bushy(511);
+    nodes.extend([CONSTANT, [3, 0, 1021, 0, 0], [9, 0, 1022, 1020, 0]]);
+    assert_eq!(nodes.len(), 1024);
+    nodes_give(DONE, &nodes);
+}
+
+#[test]
+fn depth_to_64() {
+    nodes_give(DONE, &sequences(64));
+    nodes_give(DEPTH, &sequences(65));
+    nodes_give(DEPTH, &sequences(512));
+    nodes_give(DONE, &nots(64));
+    nodes_give(DEPTH, &nots(65));
+    nodes_give(DEPTH, &nots(1024));
+}
+
+#[test]
+fn the_documents_levels() {
+    rows_give(DONE, &[3, 2]);
+    rows_give(DONE, &[15, 10, 12, 8]);
+    rows_give(LEVELS, &[7, 2, 4]);
+    rows_give(DONE, &[1]);
+    rows_give(LEVELS, &[0]);
+}
+
+#[test]
+fn levels_that_form_a_lattice_are_taken() {
+    // Level 1 below level 0.
+    rows_give(DONE, &[1, 3]);
+    // M3: bottom 0, three levels side by side, top 4.
+    rows_give(DONE, &[0b11111, 0b10010, 0b10100, 0b11000, 0b10000]);
+    // N5: 1 beside 2 below 3.
+    rows_give(DONE, &[0b11111, 0b10010, 0b11100, 0b11000, 0b10000]);
+}
+
+#[test]
+fn levels_that_break_a_law_are_3() {
+    // A bit at the count, and the last bit.
+    rows_give(LEVELS, &[7, 2]);
+    rows_give(LEVELS, &[3, 0x8002]);
+    // The middle one of three not at or below itself.
+    rows_give(LEVELS, &[0b111, 0b100, 0b100]);
+    // Each at or below the other.
+    rows_give(LEVELS, &[3, 3]);
+    // 1 below 2 below 3, but 1 not below 3; all joins and meets are there.
+    rows_give(LEVELS, &[0b11111, 0b10110, 0b11100, 0b11000, 0b10000]);
+    // Two levels under one top have no meet; two unrelated ones nothing.
+    rows_give(LEVELS, &[0b101, 0b110, 0b100]);
+    rows_give(LEVELS, &[1, 2]);
+    // 1 and 2 both below 3 and 4: upper bounds, none of them least.
+    rows_give(
+        LEVELS,
+        &[0b111111, 0b111010, 0b111100, 0b101000, 0b110000, 0b100000],
+    );
+}
+
+#[test]
+fn names() {
+    for good in ["a", "z", "a0", "z9_", "q_______", "abcdefgh", "a9876543"] {
+        names_give(DONE, &[name(good)]);
+    }
+    for bad in [
+        "", "_", "0", "Q", "{", "`", "a/", "a:", "a`", "a{", "aZ", "a ", "abcdefg-",
+    ] {
+        names_give(NAME, &[name(bad)]);
+    }
+    names_give(NAME, &[*b"\0a\0\0\0\0\0\0"]);
+    names_give(NAME, &[*b"a\0b\0\0\0\0\0"]);
+    names_give(NAME, &[*b"a\0\0\0\0\0\0b"]);
+    names_give(NAME, &[*b"a\0\0\0\0\0\0\x01"]);
+    names_give(NAME, &[*b"a\xe1\0\0\0\0\0\0"]);
+}
+
+#[test]
+fn no_name_twice() {
+    names_give(DONE, &[name("a"), name("aa"), name("ab")]);
+    names_give(DONE, &[name("abcdefgh"), name("abcdefgi")]);
+    names_give(NAME, &[name("a"), name("b"), name("a")]);
+    names_give(NAME, &[name("abcdefgh"), name("abcdefgh")]);
+}
+
+/// For each kind, the nodes of a small right sheet with that kind in it.
+fn sheets_of_each_kind() -> Vec<Vec<[u16; 5]>> {
+    vec![
+        vec![CONSTANT, [6, 0, 0, 0, 0]],
+        vec![FIELD, [6, 0, 0, 0, 0]],
+        vec![CONSTANT, CONSTANT, [2, 9, 0, 1, 0], [6, 0, 0, 2, 0]],
+        vec![CONSTANT, [3, 0, 0, 0, 0], [6, 0, 0, 1, 0]],
+        vec![CONSTANT, [4, 0, 0, 0, 0], [6, 0, 0, 1, 0]],
+        vec![SKIP],
+        vec![FIELD, [6, 0, 0, 0, 0]],
+        vec![SKIP, SKIP, [7, 0, 0, 1, 0]],
+        vec![CONSTANT, SKIP, SKIP, [8, 0, 0, 1, 2]],
+        vec![CONSTANT, SKIP, [9, 0, 0, 1, 0]],
+    ]
+}
+
+/// Sets one part of the first node of this kind: 0 kind, 1 operator, 2 to 4 a to c.
+fn with(kind: usize, part: usize, value: u16) -> Vec<[u16; 5]> {
+    let mut nodes = sheets_of_each_kind()[kind].clone();
+    let node = nodes.iter_mut().find(|node| node[0] == kind as u16);
+    node.expect("there")[part] = value;
+    nodes
+}
+
+#[test]
+fn each_kind_is_taken_and_kind_10_is_5() {
+    for nodes in sheets_of_each_kind() {
+        nodes_give(DONE, &nodes);
+    }
+    for kind in 0..10 {
+        nodes_give(NODE, &with(kind, 0, 10));
+        nodes_give(NODE, &with(kind, 0, 255));
+    }
+}
+
+#[test]
+fn operators() {
+    for operator in 0..=9 {
+        nodes_give(DONE, &with(2, 1, operator));
+    }
+    nodes_give(NODE, &with(2, 1, 10));
+    nodes_give(NODE, &with(2, 1, 255));
+    for kind in [0, 1, 3, 4, 5, 6, 7, 8, 9] {
+        nodes_give(NODE, &with(kind, 1, 1));
+    }
+}
+
+#[test]
+fn unused_places_are_0() {
+    let unused: [(usize, &[usize]); 10] = [
+        (0, &[3, 4]),
+        (1, &[3, 4]),
+        (2, &[4]),
+        (3, &[3, 4]),
+        (4, &[3, 4]),
+        (5, &[2, 3, 4]),
+        (6, &[4]),
+        (7, &[4]),
+        (8, &[]),
+        (9, &[4]),
+    ];
+    for (kind, parts) in unused {
+        for &part in parts {
+            nodes_give(NODE, &with(kind, part, 1));
+            nodes_give(NODE, &with(kind, part, 256));
+        }
+    }
+}
+
+#[test]
+fn child_numbers_are_lower() {
+    let children: [(usize, &[usize]); 7] = [
+        (2, &[2, 3]),
+        (3, &[2]),
+        (4, &[2]),
+        (6, &[3]),
+        (7, &[2, 3]),
+        (8, &[2, 3, 4]),
+        (9, &[2, 3]),
+    ];
+    for (kind, parts) in children {
+        let nodes = &sheets_of_each_kind()[kind];
+        let own = nodes.iter().position(|node| node[0] == kind as u16);
+        for &part in parts {
+            for child in [own.expect("there"), nodes.len(), 65_535] {
+                nodes_give(NODE, &with(kind, part, child as u16));
+            }
+        }
+    }
+}
+
+#[test]
+fn children_have_their_sort() {
+    nodes_give(NODE, &[CONSTANT, SKIP, [2, 0, 0, 1, 0], SKIP]);
+    nodes_give(NODE, &[SKIP, [3, 0, 0, 0, 0], SKIP]);
+    nodes_give(NODE, &[SKIP, [4, 0, 0, 0, 0], SKIP]);
+    nodes_give(NODE, &[SKIP, [6, 0, 0, 0, 0]]);
+    nodes_give(NODE, &[CONSTANT, SKIP, [7, 0, 0, 1, 0]]);
+    nodes_give(NODE, &[SKIP, CONSTANT, [7, 0, 0, 1, 0]]);
+    nodes_give(NODE, &[SKIP, CONSTANT, SKIP, [8, 0, 0, 1, 2]]);
+    nodes_give(NODE, &[SKIP, CONSTANT, SKIP, [8, 0, 1, 0, 1]]);
+    nodes_give(NODE, &[SKIP, CONSTANT, [9, 0, 0, 1, 0]]);
+    nodes_give(NODE, &[CONSTANT, CONSTANT, [9, 0, 0, 1, 0]]);
+}
+
+#[test]
+fn indexes_are_in_range() {
+    for (kind, last) in [(0, 2), (1, 1), (6, 1)] {
+        nodes_give(DONE, &with(kind, 2, 0));
+        nodes_give(DONE, &with(kind, 2, last));
+        nodes_give(NODE, &with(kind, 2, last + 1));
+        nodes_give(NODE, &with(kind, 2, 256));
+    }
+    let without_constants = Parts {
+        constants: Vec::new(),
+        nodes: sheets_of_each_kind()[0].clone(),
+        ..plain()
+    };
+    gives(NODE, &without_constants);
+}
+
+#[test]
+fn nodes_are_used_once_and_the_last_is_a_command() {
+    // Used twice, never, both at once.
+    nodes_give(USE, &[SKIP, [7, 0, 0, 0, 0]]);
+    nodes_give(USE, &[SKIP, SKIP]);
+    nodes_give(USE, &[SKIP, SKIP, [7, 0, 1, 1, 0]]);
+    // An expression last.
+    nodes_give(USE, &[CONSTANT]);
+    nodes_give(USE, &[FIELD, [3, 0, 0, 0, 0]]);
+    nodes_give(USE, &[FIELD, [6, 0, 0, 0, 0], CONSTANT]);
+}
+
+#[test]
+fn the_first_failing_row_in_the_order_is_told() {
+    let mut parts = plain();
+    parts.nodes = nots(65);
+    gives(DEPTH, &parts);
+    parts.nodes.insert(65, SKIP);
+    parts.nodes.swap(64, 65);
+    gives(USE, &parts);
+    parts.nodes[0][4] = 1;
+    gives(NODE, &parts);
+    parts.names[0][0] = b'_';
+    gives(NAME, &parts);
+    parts.rows[0] = 0;
+    gives(LEVELS, &parts);
+    let mut bytes = parts.bytes();
+    bytes.push(0);
+    assert_eq!(load(&bytes), Answer::plain(LENGTH));
+    bytes[0] = 0;
+    assert_eq!(load(&bytes), Answer::plain(COUNT));
+}

@@ -1,0 +1,79 @@
+//! Judges that ask the right questions in the wrong order.
+
+use super::WrongJudge;
+use crate::model::levels::{Levels, LAWS};
+use crate::model::nodes::nodes_are_right;
+use crate::model::number::{COUNT, LENGTH, LEVELS, NODE, USE};
+use crate::model::sheet::{Section, Sheet, SECTIONS};
+use crate::model::tree::last_is_a_command;
+use crate::model::{load, CHECKS};
+
+pub fn judges() -> Vec<WrongJudge> {
+    let mut judges = rows_exchanged();
+    judges.extend([
+        WrongJudge::confusing_sheets("6 before 5", (NODE, USE), |sheet| !last_is_a_command(sheet)),
+        WrongJudge::confusing("3 before 1", (LENGTH, LEVELS), levels_fail),
+        WrongJudge::confusing("3 before 2", (COUNT, LEVELS), levels_fail),
+        WrongJudge::confusing("limits after the lengths", (COUNT, LENGTH), |bytes| {
+            Sheet::read_within(bytes, &without_limits()).is_err()
+        }),
+        bytes_left_come_last(),
+    ]);
+    judges
+}
+
+/// Of two rows that both fail, the later one is told. Rows 6 and 7 are asked
+/// only of right nodes.
+fn rows_exchanged() -> Vec<WrongJudge> {
+    let mut judges = Vec::new();
+    for (at, late) in CHECKS.iter().enumerate() {
+        for early in CHECKS[..at].iter().filter(|early| early.number != NODE) {
+            let name = format!("{} before {}", late.number, early.number);
+            let numbers = (early.number, late.number);
+            let fails = |sheet: &Sheet| {
+                let askable = late.number <= NODE || nodes_are_right(sheet);
+                askable && !(late.passes)(sheet)
+            };
+            judges.push(WrongJudge::confusing_sheets(name, numbers, fails));
+        }
+    }
+    judges
+}
+
+/// Whether the levels section can be read and breaks a law.
+fn levels_fail(bytes: &[u8]) -> bool {
+    let Some(&[low, high]) = bytes.get(..2) else {
+        return false;
+    };
+    let count = usize::from(u16::from_le_bytes([low, high]));
+    let within = (SECTIONS[0].least..=SECTIONS[0].most).contains(&count);
+    let Some(rows) = bytes.get(2..2 + 2 * count).filter(|_| within) else {
+        return false;
+    };
+    let row = |pair: &[u8]| u16::from_le_bytes([pair[0], pair[1]]);
+    let rows = rows.chunks_exact(2).map(row).collect();
+    let levels = Levels { rows };
+    LAWS.iter().any(|(_, law)| !law(&levels))
+}
+
+fn without_limits() -> [Section; 4] {
+    SECTIONS.map(|section| Section {
+        least: 0,
+        most: usize::from(u16::MAX),
+        ..section
+    })
+}
+
+/// A byte left is told only if the sheet is right without it.
+fn bytes_left_come_last() -> WrongJudge {
+    WrongJudge::new("bytes left come last", |bytes, number| {
+        if number != LENGTH || bytes.is_empty() {
+            return number;
+        }
+        let without = load(&bytes[..bytes.len() - 1]).number;
+        match without >= LEVELS {
+            true => without,
+            false => number,
+        }
+    })
+}
