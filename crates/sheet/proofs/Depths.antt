@@ -1,5 +1,5 @@
 -- A node is one deeper than the deepest of its children.
-use Prim.Native.Nat.{ℕ, zero, suc, max, _-_, _≤_, _<_}
+use Prim.Native.Nat.{ℕ, zero, suc, max, _+_, _≤_, _<_}
 use native.Mathlib.Omega.{arith}
 use mathlib.Core.Path.{_≡_, refl, ap, _∙_}
 use mathlib.Core.Bool.{true, false, cond, false≢true}
@@ -100,20 +100,21 @@ module _ (values s : List ℕ) where
     child-lower (suc (suc zero)) h = omega (arith, one-deeper)
     child-lower (suc (suc (suc k))) h = absurd (omega arith)
 
-    -- what a budget allows: none, a child that is too deep, and children that all fit with one less
-    module _ (budget : ℕ) where
-      pub no-budget : budget ≡ 0 → leb (depthAt values s n) budget ≡ false
-      no-budget e = lt-leb (depthAt values s n) budget (omega (arith, one-deeper))
+    -- with so many nodes below it: a child that goes too deep, and children that all fit
+    module _ (below : ℕ) where
+      pub too-deep : (k : ℕ) → k < 3 → leb (depthIn n (kindAt s n) k) below ≡ false → leb (depthAt values s n) (below + 1) ≡ false
+      too-deep k h e =
+          let over : below < depthIn n (kindAt s n) k = leb-false _ _ e in
+          lt-leb (depthAt values s n) (below + 1) (omega (arith, child-lower k h))
 
-      pub too-deep : (k : ℕ) → k < 3 → (budget ≡ 0 → ⊥) → leb (depthIn n (kindAt s n) k) (budget - 1) ≡ false → leb (depthAt values s n) budget ≡ false
-      too-deep k h some e =
-          let over : budget - 1 < depthIn n (kindAt s n) k = leb-false _ _ e in
-          lt-leb (depthAt values s n) budget (omega (arith, child-lower k h))
+      pub all-fit : all 3 (λ k. leb (depthIn n (kindAt s n) k) below) ≡ true → leb (depthAt values s n) (below + 1) ≡ true
+      all-fit e =
+          let fits : (k : ℕ) → k < 3 → depthIn n (kindAt s n) k ≤ below = λ k h. leb-true _ _ (all-at 3 (λ k. leb (depthIn n (kindAt s n) k) below) e k h) in
+          le-leb (depthAt values s n) (below + 1) (omega (arith, one-deeper, fits 0 (omega arith), fits 1 (omega arith), fits 2 (omega arith)))
 
-      pub all-fit : (budget ≡ 0 → ⊥) → all 3 (λ k. leb (depthIn n (kindAt s n) k) (budget - 1)) ≡ true → leb (depthAt values s n) budget ≡ true
-      all-fit some e =
-          let fits : (k : ℕ) → k < 3 → depthIn n (kindAt s n) k ≤ budget - 1 = λ k h. leb-true _ _ (all-at 3 (λ k. leb (depthIn n (kindAt s n) k) (budget - 1)) e k h) in
-          le-leb (depthAt values s n) budget (omega (arith, one-deeper, fits 0 (omega arith), fits 1 (omega arith), fits 2 (omega arith)))
+    -- a tree is at least 1 deep
+    pub some-depth : leb (depthAt values s n) 0 ≡ false
+    some-depth = lt-leb (depthAt values s n) 0 (omega (arith, one-deeper))
 
 -- a child is a node with a lower number
 pub child-node : {s : List ℕ} {n : ℕ} → NodeIn s n → (k : ℕ) → k < 3 → isChild (heldIn (kindAt s n) k) ≡ true → (placeAt s n k < n) × NodeIn s (placeAt s n k)
