@@ -4,13 +4,12 @@ use native.Mathlib.Omega.{arith}
 use mathlib.Core.Path.{_≡_, refl, ap, _∙_}
 use mathlib.Core.Bool.{Bool, true, false, cond}
 use mathlib.Core.List.{List}
-use lib.IntN.{pos}
 use lib.Dec.{ltb}
 use borrow.Author.Tests.{ltb-true, lt-ltb}
 use Rattle.sheet.specs.Nodes.{In, kindAt, opAt, placeAt, kinds, heldIn, Holds, WellFormed}
 use Rattle.sheet.specs.declared.nodes.Held.the-variants.{Expression, Command}
 use Rattle.sheet.specs.Trees.{Exp, constant, field, operator, not, seal, Cmd, skip, assign, sequence, ifElse, while}
-use Rattle.sheet.specs.Trees.{lower, constantAt, expNode, expBelow, expAt, cmdNode, cmdBelow, cmdAt}
+use Rattle.sheet.specs.Trees.{lower, constantAt, zeroValue, expNode, expBelow, expAt, cmdNode, cmdBelow, cmdAt}
 
 -- only lower children count
 lower-same : {A : Type 0} (f g : ℕ → A) (none : A) (n : ℕ) → ((w : ℕ) → w < n → f w ≡ g w) → lower n f none ≡ lower n g none
@@ -33,7 +32,7 @@ module _ (constants s : List ℕ) where
   exp-reach (suc d) zero n p q = absurd (omega arith)
   exp-reach (suc d) (suc e) n p q =
       ap (λ (child : ℕ → Exp). expNode constants s child n (kindAt s n))
-      (lower-same (expBelow constants s d) (expBelow constants s e) (constant (pos 0)) n (λ w l. exp-reach d e w (omega arith) (omega arith)))
+      (lower-same (expBelow constants s d) (expBelow constants s e) zeroValue n (λ w l. exp-reach d e w (omega arith) (omega arith)))
 
   cmd-reach : (d e n : ℕ) → n < d → n < e → cmdBelow constants s d n ≡ cmdBelow constants s e n
   unfolding cmdBelow
@@ -44,11 +43,11 @@ module _ (constants s : List ℕ) where
       (lower-same (cmdBelow constants s d) (cmdBelow constants s e) (skip 0) n (λ w l. cmd-reach d e w (omega arith) (omega arith)))
 
   -- a node, with the trees at its children
-  exp-node : (n : ℕ) → expAt constants s n ≡ expNode constants s (lower n (expAt constants s) (constant (pos 0))) n (kindAt s n)
+  exp-node : (n : ℕ) → expAt constants s n ≡ expNode constants s (lower n (expAt constants s) zeroValue) n (kindAt s n)
   unfolding expAt expBelow
   exp-node n =
       ap (λ (child : ℕ → Exp). expNode constants s child n (kindAt s n))
-      (lower-same (expBelow constants s n) (expAt constants s) (constant (pos 0)) n (λ w l. exp-reach n (suc w) w l (omega arith)))
+      (lower-same (expBelow constants s n) (expAt constants s) zeroValue n (λ w l. exp-reach n (suc w) w l (omega arith)))
 
   cmd-node : (n : ℕ) → cmdAt constants s n ≡ cmdNode constants s (lower n (cmdAt constants s) (skip 0)) n (kindAt s n)
   unfolding cmdAt cmdBelow
@@ -64,7 +63,7 @@ held-there {s} {fields} {constants} nodes n i kind k e h = rw e at (nodes .place
 -- one law a kind
 module _ (values : List ℕ) {s : List ℕ} {fields constants : ℕ} (nodes : WellFormed s fields constants) (n : ℕ) (i : In s n) where
   -- a child that is an expression, and one that is a command
-  exp-child : (kind k : ℕ) → kindAt s n ≡ kind → k < 3 → heldIn kind k ≡ Expression → lower n (expAt values s) (constant (pos 0)) (placeAt s n k) ≡ expAt values s (placeAt s n k)
+  exp-child : (kind k : ℕ) → kindAt s n ≡ kind → k < 3 → heldIn kind k ≡ Expression → lower n (expAt values s) zeroValue (placeAt s n k) ≡ expAt values s (placeAt s n k)
   exp-child kind k e h held = lower-is _ _ n _ ((rw held at (held-there nodes n i kind k e h)) .lower)
 
   cmd-child : (kind k : ℕ) → kindAt s n ≡ kind → k < 3 → heldIn kind k ≡ Command → lower n (cmdAt values s) (skip 0) (placeAt s n k) ≡ cmdAt values s (placeAt s n k)

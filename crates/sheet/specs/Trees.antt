@@ -3,15 +3,16 @@
 use Prim.Native.Nat.{ℕ, zero, suc, _+_, _*_}
 use mathlib.Core.Bool.{true, false, cond}
 use mathlib.Core.List.{List}
-use lib.IntN.{ℤ, pos}
+use lib.IntN.{pos}
 use lib.ListN.{getD}
 use lib.Dec.{eqb, ltb}
 use Rattle.value.specs.Bytes.{ofBytes}
+use Rattle.value.specs.declared.Value.{Value}
 use Rattle.sheet.specs.Nodes.{kindAt, opAt, placeAt}
 
 -- expressions; an operator has its place, the number of its node
 pub data Exp : Type 0 where
-  constant : ℤ → Exp
+  constant : Value → Exp
   field : ℕ → Exp
   operator : ℕ → ℕ → Exp → Exp → Exp
   not : Exp → Exp
@@ -30,8 +31,12 @@ unfoldable pub lower : {A : Type 0} → ℕ → (ℕ → A) → A → ℕ → A
 lower n tree none w = cond (ltb w n) (tree w) none
 
 -- 4 bytes, signed
-abbrev pub constantAt : List ℕ → ℕ → ℤ
-constantAt s a = ofBytes (getD s (a * 4) 0) (getD s (a * 4 + 1) 0) (getD s (a * 4 + 2) 0) (getD s (a * 4 + 3) 0)
+abbrev pub constantAt : List ℕ → ℕ → Value
+constantAt s a = record { n = ofBytes (getD s (a * 4) 0) (getD s (a * 4 + 1) 0) (getD s (a * 4 + 2) 0) (getD s (a * 4 + 3) 0) }
+
+-- stands where there is no expression
+abbrev pub zeroValue : Exp
+zeroValue = constant (record { n = pos 0 })
 
 module _ (constants s : List ℕ) where
   -- the expression at node n of a kind, where `child` gives its children's
@@ -53,8 +58,8 @@ module _ (constants s : List ℕ) where
 
   -- the same, going down at most d nodes
   unfoldable pub expBelow : ℕ → ℕ → Exp
-  expBelow zero n = constant (pos 0)
-  expBelow (suc d) n = expNode (lower n (expBelow d) (constant (pos 0))) n (kindAt s n)
+  expBelow zero n = zeroValue
+  expBelow (suc d) n = expNode (lower n (expBelow d) zeroValue) n (kindAt s n)
 
   unfoldable pub expAt : ℕ → Exp
   expAt n = expBelow (suc n) n

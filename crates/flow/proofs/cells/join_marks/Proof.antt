@@ -1,0 +1,48 @@
+-- The level is the join of both levels, and the byte is partial if either is.
+use Prim.Native.Nat.{_<_}
+use native.Mathlib.Omega.{arith}
+use denote.Ref.{now}
+use Rattle.levels.proofs.Facts.{facts}
+use Rattle.flow.proofs.Marking.{known-is, known-of, joined-whole, joined-partial}
+use Rattle.flow.proofs.cells.join_marks.Statement.{statement}
+use Rattle.flow.proofs.cells.join_marks.Tie as tie
+
+level-few : (c : tie.After-join) → c .join .result < 16
+level-few c =
+    let start = c .before .before in
+    omega (arith, c .join .ensures .1, facts (now (start .args .rows)) (start .pre .order) .few)
+
+join-requires : tie.Need-join-requires
+join-requires c κs =
+    let start = c .before in
+    record { rows = start .pre .order; first = known-is _ _ (start .pre .first) .1; second = known-is _ _ (start .pre .second) .1 }
+
+cast-level : tie.Need-cast-level
+cast-level c = omega (arith, level-few c)
+
+add-result : tie.Need-add-result
+add-result c = omega (arith, level-few (c .before))
+
+returns : tie.Need-returns
+returns c =
+    let start = c .before .before .before in
+    let call = c .before .join .ensures in
+    let few = level-few (c .before) in
+    (joined-whole _ _ _ (start .pre .first) (start .pre .second) _ (call .0) few (c .if1 .taken), known-of _ _ (omega arith) (omega (arith, call .1)))
+
+returns-2 : tie.Need-returns-2
+returns-2 c =
+    let start = c .before .before .before in
+    let call = c .before .join .ensures in
+    let few = level-few (c .before) in
+    (joined-partial _ _ _ (start .pre .first) (start .pre .second) _ (call .0) few (c .if1 .left), known-of _ _ (omega arith) (omega (arith, call .1)))
+
+pub join-marks-spec : {M : Type 1} → statement M
+join-marks-spec =
+    tie.close
+    (tie.spec
+    join-requires
+    cast-level
+    add-result
+    returns
+    returns-2)
