@@ -4,16 +4,18 @@ use native.Mathlib.Omega.{arith}
 use mathlib.Core.Path.{_≡_, sym, ap, _∙_}
 use mathlib.Core.Bool.{true, false, _&&_, true≢false}
 use mathlib.Core.List.{List}
-use borrow.Author.Tests.{lt-ltb, le-ltb, ltb-true, ltb-false, leb-true, le-leb}
+use borrow.Author.Tests.{lt-ltb, le-ltb, ltb-true, ltb-false, leb-true, le-leb, ne-eqb}
 use lib.Dec.{ltb}
 use Rattle.basis.proofs.Tests.{both, and-of, split}
-use Rattle.levels.specs.Levels.{count, right, joinOf, lowestOf, highestOf}
+use Rattle.levels.specs.Levels.{count, below, right, joinOf, meetOf, lowestOf, highestOf}
 use Rattle.levels.specs.Lattice.{lattice}
-use Rattle.levels.proofs.Laws.{join-at}
+use Rattle.levels.proofs.Laws.{le-at, join-at, meet-at}
 use Rattle.levels.proofs.Facts.{facts}
 use Rattle.levels.proofs.Bounds.{lowest-is, highest-is}
-use Rattle.flow.specs.Marks.{whole, partial, joined}
+use Rattle.flow.specs.Rules.{notBelow, fine, fails}
+use Rattle.flow.specs.Marks.{whole, partial, strict, permissive, modeOf, levelOf, joined, stored}
 use Rattle.flow.specs.Stores.{markOf, markKnown}
+use Rattle.flow.specs.Tasks.{contextIn, tryOf, Stored}
 
 -- a known mark is at most 31 and has a level
 pub known-is : (levels byte : ℕ) → markKnown levels byte ≡ true → (byte ≤ 31) × (byte % 16 < levels)
@@ -82,3 +84,61 @@ module _ (rows : List ℕ) (h : right rows ≡ true) (bounds : ℕ) (e : bounds 
       let upper : bounds / 16 ≡ highestOf rows = omega arith in
       let is : highestOf rows % 16 ≡ highestOf rows = omega arith in
       rw (upper, is) (mark-whole _ (omega arith), known-of _ _ (omega arith) (omega arith))
+
+-- ── what an assignment leaves ───────────────────────────────────────────────────────────────
+
+-- the level of a known mark
+level-is : (levels byte : ℕ) → markKnown levels byte ≡ true → levelOf (markOf byte) ≡ byte % 16
+level-is levels byte h =
+    let few = known-is levels byte h .0 in
+    split (ltb byte 16)
+    (λ low. ap levelOf (mark-whole byte (ltb-true byte 16 low)) ∙ omega (arith, ltb-true byte 16 low))
+    (λ high. ap levelOf (mark-partial byte (ltb-false byte 16 high)) ∙ omega (arith, ltb-false byte 16 high))
+
+pub try-fine : (byte : ℕ) → byte < 32 → tryOf byte ≡ fine (markOf byte)
+unfolding tryOf
+try-fine byte h = rw (lt-ltb byte 32 h)
+
+pub try-fails : (byte : ℕ) → 32 ≤ byte → tryOf byte ≡ fails notBelow
+unfolding tryOf
+try-fails byte h = rw (le-ltb byte 32 h)
+
+mode-strict : (number : ℕ) → number ≡ 0 → modeOf number ≡ strict
+unfolding modeOf
+mode-strict number e = rw e
+
+mode-permissive : (number : ℕ) → (number ≡ 0 → ⊥) → modeOf number ≡ permissive
+unfolding modeOf
+mode-permissive number n = rw (ne-eqb number 0 n)
+
+-- in a context that is a level, on a field with a known mark
+module _ (rows : List ℕ) (task old m : ℕ) (known-old : markKnown (count rows) old ≡ true) (level : contextIn task < count rows) where
+  order-at : lattice rows .le (contextIn task) (levelOf (markOf old)) ≡ below rows (contextIn task) (old % 16)
+  order-at = rw (level-is _ old known-old) (le-at rows _ _ level (known-is _ old known-old .1))
+
+  pub stored-below : (r : ℕ) → below rows (contextIn task) (old % 16) ≡ true → markOf r ≡ joined (lattice rows) (markOf m) (whole (contextIn task)) → markKnown (count rows) r ≡ true
+      → Stored rows task old m r
+  unfolding stored
+  stored-below r h is known = record {
+    is = let few = known-is _ r known .0 in try-fine r (omega arith) ∙ ap fine is ∙ rw (order-at, h);
+    known = λ small. known;
+  }
+
+  pub stored-strict : below rows (contextIn task) (old % 16) ≡ false → task % 65536 / 256 ≡ 0 → Stored rows task old m 32
+  unfolding stored
+  stored-strict h mode = record {
+    is = try-fails 32 (omega arith) ∙ rw (order-at, h, mode-strict _ mode);
+    known = λ small. absurd (omega arith);
+  }
+
+  pub stored-permissive : (r : ℕ) → below rows (contextIn task) (old % 16) ≡ false → (task % 65536 / 256 ≡ 0 → ⊥) → r ≡ meetOf rows (contextIn task) (old % 16) → r < 16 → r < count rows
+      → Stored rows task old m (r + 16)
+  unfolding stored
+  stored-permissive r h mode is few inside =
+      let back : r + 16 - 16 ≡ r = omega arith in
+      let lower : (r + 16) % 16 ≡ r = omega arith in
+      let meet : lattice rows .meet (contextIn task) (levelOf (markOf old)) ≡ meetOf rows (contextIn task) (old % 16) = rw (level-is _ old known-old) (meet-at rows (contextIn task) (old % 16) level (known-is _ old known-old .1)) in
+      record {
+        is = try-fine (r + 16) (omega arith) ∙ ap fine (mark-partial (r + 16) (omega arith) ∙ ap partial (back ∙ is ∙ sym meet)) ∙ rw (order-at, h, mode-permissive _ mode);
+        known = λ small. known-of _ _ (omega arith) (rw lower inside);
+      }

@@ -1,5 +1,5 @@
 -- Numbers that answer for results: a value with its mark, or a stop.
-use Prim.Native.Nat.{ℕ, _+_, _-_, _*_, _/_, _%_, _≤_, _<_}
+use Prim.Native.Nat.{ℕ, _+_, _*_, _/_, _%_, _≤_, _<_}
 use native.Mathlib.Omega.{arith}
 use mathlib.Core.Path.{_≡_, _∙_}
 use mathlib.Core.Bool.{true}
@@ -13,7 +13,7 @@ use Rattle.levels.specs.Levels.{count}
 use Rattle.value.specs.Bytes.{ofBits, bitsOf}
 use Rattle.flow.specs.Rules.{gives, stops, cell}
 use Rattle.flow.specs.Stores.{markOf, markKnown}
-use Rattle.flow.specs.Words.{valueIn, markIn, whyOf, resultOf, Known}
+use Rattle.flow.specs.Words.{valueIn, markIn, whyOf, resultOf, Known, Numbered}
 use Rattle.flow.proofs.Marking.{known-is}
 
 -- a value's bits are few, and give the value again
@@ -63,3 +63,10 @@ known-seen rows r mark e h small =
     let few = known-is (count rows) mark h .0 in
     let byte : mark % 256 ≡ mark = omega arith in
     rw (e, byte) h
+
+-- a word has no number, or the number of its stop
+pub number-seen : (r : ℕ) → r < 281474976710656 → Numbered r
+number-seen r h large = absurd (omega arith)
+
+pub number-stop : (r number place : ℕ) → r ≡ place * 4294967296 + number * 281474976710656 → place < 65536 → 12 < number → number ≤ 16 → Numbered r
+number-stop r number place e few h k large = (omega arith, omega arith)

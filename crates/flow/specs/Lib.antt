@@ -3,3 +3,4 @@ pub mod Rules
 pub mod Marks
 pub mod Stores
 pub mod Words
+pub mod Tasks

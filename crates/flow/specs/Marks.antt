@@ -1,6 +1,7 @@
 -- The marks of document 01: a level, whole or partial, in strict and in permissive mode.
 use Prim.Native.Nat.{ℕ}
-use mathlib.Core.Bool.{Bool, true, false}
+use mathlib.Core.Bool.{Bool, true, false, cond}
+use lib.Dec.{eqb}
 use Rattle.levels.specs.Lattice.{Lattice}
 use Rattle.flow.specs.Rules.{notBelow, partialTest, Try, fine, fails, Marking}
 
@@ -9,6 +10,10 @@ pub data Mark : Type 0 where
 
 pub data Mode : Type 0 where
   strict permissive : Mode
+
+-- mode 0 (strict) or 1 (permissive)
+unfoldable pub modeOf : ℕ → Mode
+modeOf number = cond (eqb number 0) strict permissive
 
 abbrev pub levelOf : Mark → ℕ
 levelOf (whole a) = a

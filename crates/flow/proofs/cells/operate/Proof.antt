@@ -9,7 +9,7 @@ use Rattle.levels.specs.Lattice.{lattice}
 use Rattle.flow.specs.Rules.{gives, cell}
 use Rattle.flow.specs.Marks.{Mark}
 use Rattle.flow.specs.Words.{valueIn, whyOf, resultOf}
-use Rattle.flow.proofs.Words.{stop-is, known-seen, known-stop}
+use Rattle.flow.proofs.Words.{stop-is, known-seen, known-stop, number-seen, number-stop}
 use Rattle.flow.proofs.Expressions.{operated-is, operated-range, operated-zero}
 use Rattle.flow.proofs.cells.operate.Statement.{statement}
 use Rattle.flow.proofs.cells.operate.Tie as tie
@@ -36,6 +36,7 @@ returns c =
       is = λ mode. c .seen .ensures .0 ∙ ap (λ (m : Mark). gives (cell v m)) joined
           ∙ sym (operated-is (lattice (now (start .args .rows))) mode (start .args .place) (start .args .op) _ _ _ _ v (sym (applied call) ∙ bound .v .given .1));
       known = known-seen (now (start .args .rows)) _ _ (c .seen .ensures .1) (c .before .join-marks .ensures .1);
+      number = number-seen _ (c .seen .ensures .2);
     }
 
 returns-2 : tie.Need-returns-2
@@ -47,6 +48,7 @@ returns-2 c =
       is = λ mode. ap resultOf (c .stop .ensures) ∙ stop-is 13 (start .args .place) (omega arith) (start .pre .1)
           ∙ sym (operated-range (lattice (now (start .args .rows))) mode (start .args .place) (start .args .op) _ _ _ _ (sym (applied call) ∙ c .before .enum-told .given .1));
       known = known-stop (now (start .args .rows)) _ 13 (start .args .place) (c .stop .ensures) (omega arith);
+      number = number-stop _ 13 (start .args .place) (c .stop .ensures) (start .pre .1) (omega arith) (omega arith);
     }
 
 returns-3 : tie.Need-returns-3
@@ -58,6 +60,7 @@ returns-3 c =
       is = λ mode. ap resultOf (c .stop2 .ensures) ∙ stop-is 14 (start .args .place) (omega arith) (start .pre .1)
           ∙ sym (operated-zero (lattice (now (start .args .rows))) mode (start .args .place) (start .args .op) _ _ _ _ (sym (applied call) ∙ c .before .enum-told2 .given .1));
       known = known-stop (now (start .args .rows)) _ 14 (start .args .place) (c .stop2 .ensures) (omega arith);
+      number = number-stop _ 14 (start .args .place) (c .stop2 .ensures) (start .pre .1) (omega arith) (omega arith);
     }
 
 pub operate-spec : {M : Type 1} → statement M

@@ -14,7 +14,7 @@ use Rattle.flow.specs.Rules.{cell, gives, eval}
 use Rattle.flow.specs.Marks.{Mark, Mode, marking}
 use Rattle.flow.specs.Stores.{markOf, storeOf}
 use Rattle.flow.specs.Words.{valueIn, markIn, resultOf}
-use Rattle.flow.proofs.Words.{word-value, word-stop, known-seen}
+use Rattle.flow.proofs.Words.{word-value, word-stop, known-seen, number-seen}
 use Rattle.flow.proofs.Marking.{bot-mark, top-mark}
 use Rattle.flow.proofs.Expressions.{held-field, eval-constant, eval-field, left-stops, not-gives, seal-gives, right-stops, both-give, left-below, right-below, child-in}
 use borrow.Fn.Kinds.{In}
@@ -121,6 +121,7 @@ returns t c =
     record {
       is = λ mode. c .seen .ensures .0 ∙ ap₂ (λ (v : Value) (m : Mark). gives (cell v m)) constant (bot .0) ∙ sym (eval-constant _ mode _ (p .ready .formed) _ (p .inside) _ kind);
       known = known-seen (now (now (start .args .rows))) _ _ (c .seen .ensures .1) (bot .1);
+      number = number-seen _ (c .seen .ensures .2);
     }
 
 field-at-requires : (t : ℕ) → lts.Need-field-at-requires (callees t) (at t) eval.Post
@@ -144,6 +145,7 @@ returns-2 t c =
     record {
       is = λ mode. read .0 ∙ sym (eval-field _ mode _ (p .ready .formed) _ (p .inside) _ kind);
       known = known-seen (now (now (start .args .rows))) _ _ (read .1) (p .ready .marks _ marked);
+      number = number-seen _ (read .2);
     }
 
 eval-requires : (t : ℕ) → lts.Need-eval-requires (callees t) (at t) eval.Post
@@ -164,6 +166,7 @@ returns-3 t c =
     record {
       is = λ mode. stop ∙ sym (left-stops _ mode _ (p .ready .formed) _ (p .inside) _ _ _ (kind-from t two) (p .sort) (left-is t (c .before) mode ∙ stop));
       known = λ small. absurd (omega (arith, c .if3 .taken));
+      number = c .before .eval .ensures .number;
     }
 
 returns-4 : (t : ℕ) → lts.Need-returns-4 (callees t) (at t) eval.Post
@@ -180,6 +183,7 @@ returns-4 t c =
       is = λ mode. c .seen2 .ensures .0 ∙ ap₂ (λ (v : Value) (m : ℕ). gives (cell v (markOf m))) value mark
           ∙ sym (not-gives _ mode _ (p .ready .formed) _ (p .inside) _ _ _ (left-gives t else mode) kind);
       known = known-seen (now (now (start .args .rows))) _ _ (c .seen2 .ensures .1) (rw mark (else .before .eval .ensures .known (else .if3 .left)));
+      number = number-seen _ (c .seen2 .ensures .2);
     }
 
 returns-5 : (t : ℕ) → lts.Need-returns-5 (callees t) (at t) eval.Post
@@ -195,6 +199,7 @@ returns-5 t c =
       is = λ mode. c .seen3 .ensures .0 ∙ ap₂ (λ (v : Value) (m : Mark). gives (cell v m)) (c .before .value-in2 .ensures) (top .0)
           ∙ sym (seal-gives _ mode _ (p .ready .formed) _ (p .inside) _ _ _ (left-gives t else mode) kind);
       known = known-seen (now (now (start .args .rows))) _ _ (c .seen3 .ensures .1) (top .1);
+      number = number-seen _ (c .seen3 .ensures .2);
     }
 
 place-requires-2 : (t : ℕ) → lts.Need-place-requires-2 (callees t) (at t) eval.Post
@@ -219,6 +224,7 @@ returns-6 t c =
       is = λ mode. stop
           ∙ sym (right-stops _ mode _ (p .ready .formed) _ (p .inside) _ _ _ (left-gives t (five .before .before) mode) _ _ (kind-two t five) (right-is t (c .before) mode ∙ stop));
       known = λ small. absurd (omega (arith, c .if6 .taken));
+      number = c .before .eval2 .ensures .number;
     }
 
 op-of-requires : (t : ℕ) → lts.Need-op-of-requires (callees t) (at t) eval.Post
@@ -247,6 +253,7 @@ returns-7 t c =
       is = λ mode. operated .is mode
           ∙ sym (both-give _ mode _ (p .ready .formed) _ (p .inside) _ _ _ (left-gives t (five .before .before) mode) _ _ (kind-two t five) (right-is t (six .before) mode ∙ word-value right (six .if6 .left)));
       known = operated .known;
+      number = operated .number;
     }
 
 pub +eval-spec : {M : Type 1} → statement M
