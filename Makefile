@@ -1,4 +1,4 @@
-# make sample: judges the sample sheets.  make test: all tests and proofs.  make archive: the C archive, with its proofs.
+# make sample: judges the sample sheets and runs the flag sheet.  make test: all tests and proofs.  make archive: the C archive, with its proofs.
 ARCHIVE = target/staticlib/libbeltuqash.a
 CFLAGS = -std=c11 -O2 -Wall -Wextra -Werror
 
@@ -11,6 +11,8 @@ archive:
 sample: archive
 	@$(CC) $(CFLAGS) -Iinclude examples/judge.c $(ARCHIVE) -o target/judge
 	@target/judge examples/*.sheet
+	@$(CC) $(CFLAGS) -Iinclude examples/flag.c $(ARCHIVE) -o target/flag
+	@target/flag examples/flag.sheet
 
 test:
 	@.ci/run

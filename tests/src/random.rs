@@ -1,6 +1,6 @@
-//! A small random number generator (splitmix64). Every sheet has a generator
-//! of its own, made from the run's seed and the sheet's index, so that one
-//! sheet can be made again without those before it.
+//! A small random number generator (splitmix64). Every sheet and every call has
+//! a generator of its own, made from the run's seed and its index, so that one
+//! can be made again without those before it.
 
 /// A state that each draw moves on.
 pub struct Random {
@@ -18,7 +18,15 @@ fn mix(mut word: u64) -> u64 {
 impl Random {
     /// The generator for one sheet of a run.
     pub fn of_sheet(seed: u64, index: u64) -> Random {
-        let run = mix(seed.wrapping_add(STEP));
+        Random::of(mix(seed.wrapping_add(STEP)), index)
+    }
+
+    /// The generator for one call of a run.
+    pub fn of_call(seed: u64, index: u64) -> Random {
+        Random::of(mix(!seed.wrapping_add(STEP)), index)
+    }
+
+    fn of(run: u64, index: u64) -> Random {
         Random {
             state: mix(run ^ index.wrapping_mul(STEP)),
         }
@@ -76,6 +84,11 @@ impl Random {
         self.word() as u8
     }
 
+    /// Any signed number of 4 bytes.
+    pub fn value(&mut self) -> i32 {
+        self.word() as i32
+    }
+
     pub fn two_bytes(&mut self) -> u16 {
         self.word() as u16
     }
@@ -107,5 +120,6 @@ mod tests {
         assert_eq!(first(7, 8), first(7, 8));
         assert_ne!(first(7, 8), first(7, 9));
         assert_ne!(first(7, 8), first(8, 8));
+        assert_ne!(first(7, 8), Random::of_call(7, 8).word());
     }
 }

@@ -1,2 +1,3 @@
--- That the contracts leave one answer.
+-- What the proof of run needs, and that the contracts leave one answer.
+pub mod Running
 pub mod Unique

@@ -1,10 +1,51 @@
--- The shop's calls: what each answers, from the bytes that come in.
-use Prim.Native.Nat.{ℕ}
-use mathlib.Core.List.{List}
-use Rattle.sheet.specs.Verdict.{numberOf}
-use Rattle.sheet.specs.Load.{loadOf}
+-- The shop's calls: what each answers and what it leaves in lent memory, from what comes in.
+use Prim.Native.Nat.{ℕ, _-_}
+use mathlib.Core.Bool.{Bool, cond, _&&_}
+use mathlib.Core.List.{List, _++_}
+use lib.ListN.{length, drop}
+use lib.Dec.{leb}
+use Rattle.levels.specs.Levels.{count}
+use Rattle.levels.specs.Lattice.{lattice}
+use Rattle.sheet.specs.Verdict.{numberOf, passesOf}
+use Rattle.sheet.specs.Sections.{levelsOf}
+use Rattle.sheet.specs.Load.{fieldCount, programOf, loadOf}
+use Rattle.flow.specs.Rules as rules
+use Rattle.flow.specs.Rules.{End, done, spent, stopped, exec}
+use Rattle.flow.specs.Marks.{Mark, modeOf, marking}
+use Rattle.flow.specs.Stores.{storeLength, storeOf, storeBytes, storeFits, marksRight}
 use Rattle.beltuqash.specs.Answer.{Answer, answer}
 
 -- **Load** judges a sheet: numbers 0 to 7. Units are 0 for load, and so is the place of 1 to 7.
 unfoldable pub load : List ℕ → Answer
 load sheet = answer (numberOf (loadOf sheet)) 0 0
+
+-- what a call that writes comes to: its answer, and the lent output afterwards
+pub record Outcome : Type 0 where
+  pub answer : Answer
+  pub out : List ℕ
+
+-- in order of checks: the first that refuses is told, with place 0 and units 0. A refusal writes nothing.
+abbrev pub check : Bool → ℕ → List ℕ → Outcome → Outcome
+check right number out next = cond right next (record { answer = answer number 0 0; out = out })
+
+-- Success writes exactly the store; later bytes stay. With the fuel used up, all of it is spent.
+unfoldable pub ended : ℕ → ℕ → List ℕ → End Mark → Outcome
+ended fields fuel out (done σ left) = record { answer = answer 0 0 (fuel - left); out = storeBytes σ fields ++ drop (storeLength fields) out }
+ended fields fuel out (spent place) = record { answer = answer 12 place fuel; out = out }
+ended fields fuel out (stopped why place left) = record { answer = answer (rules.numberOf why) place (fuel - left); out = out }
+
+-- a sheet that passes, run from a store that fits it
+unfoldable pub runFrom : List ℕ → List ℕ → ℕ → ℕ → List ℕ → Outcome
+runFrom sheet store mode fuel out =
+    ended (fieldCount sheet) fuel out
+    (exec (marking (lattice (levelsOf sheet)) (modeOf mode)) (programOf sheet) (lattice (levelsOf sheet) .bot) (storeOf store) fuel)
+
+-- **Run** takes sheet, store, mode and fuel and writes a final store.
+unfoldable pub run : List ℕ → List ℕ → ℕ → ℕ → List ℕ → Outcome
+run sheet store mode fuel out =
+    check (leb mode 1 && leb fuel 1000000) 10 out  -- mode not 0 (strict) or 1 (permissive), or fuel over 1,000,000
+    (check (passesOf (loadOf sheet)) (numberOf (loadOf sheet)) out  -- 1 to 7
+    (check (storeFits (fieldCount sheet) store) 8 out  -- store length or count doesn't fit the sheet
+    (check (marksRight (modeOf mode) (count (levelsOf sheet)) (fieldCount sheet) store) 9 out  -- a mark above 31 or its level unknown; in a strict run also a partial mark
+    (check (leb (storeLength (fieldCount sheet)) (length out)) 11 out  -- output shorter than the store
+    (runFrom sheet store mode fuel out)))))

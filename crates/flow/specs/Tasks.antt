@@ -1,4 +1,4 @@
--- How commands are handed on and answered in one number. Only contracts inside this crate cite it.
+-- How commands are handed on and answered in one number. Only contracts inside the product cite it, never a public call.
 use Prim.Native.Nat.{ℕ, suc, _+_, _*_, _/_, _%_, _≤_, _<_}
 use mathlib.Core.Path.{_≡_}
 use mathlib.Core.Bool.{true, cond}

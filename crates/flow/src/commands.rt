@@ -156,9 +156,12 @@ pub fn run(
                 return got;
             }
             left = (got % 4294967296) as u32;
-            rest = in_context(rest, got / 8589934592);
+            let joined = in_context(rest, got / 8589934592);
             if kind == 8 {
-                rest = at_node(rest, place(*nodes, n, (2 - got / 4294967296 % 2) as usize));
+                rest = at_node(
+                    joined,
+                    place(*nodes, n, (2 - got / 4294967296 % 2) as usize),
+                );
             } else {
                 if got / 4294967296 % 2 == 0 {
                     return left as u64;
@@ -168,13 +171,14 @@ pub fn run(
                     constants,
                     nodes,
                     store,
-                    at_node(rest, place(*nodes, n, 1)),
+                    at_node(joined, place(*nodes, n, 1)),
                     left,
                 );
                 if STOP <= round {
                     return round;
                 }
                 left = (round % 4294967296) as u32;
+                rest = joined;
             }
         }
     }

@@ -98,17 +98,17 @@ fn closure_system(most: usize, random: &mut Random) -> Order {
 /// Two or more lattices side by side: no two of different parts are related.
 fn parts_beside(most: usize, random: &mut Random) -> Order {
     let first = random.between(1, most - 1);
-    let mut order = small_lattice(first, random);
+    let mut order = part(first, random);
     let mut parts = 1;
     while order.len() < most && (parts < 2 || !random.once_in(3)) {
         let next = random.between(1, most - order.len());
-        order = beside(&order, &small_lattice(next, random));
+        order = beside(&order, &part(next, random));
         parts += 1;
     }
     order
 }
 
-fn small_lattice(most: usize, random: &mut Random) -> Order {
+fn part(most: usize, random: &mut Random) -> Order {
     match random.below(3) {
         0 => chain(1),
         1 => chain(random.between(1, most)),
@@ -151,6 +151,21 @@ pub fn lattice(random: &mut Random) -> Order {
         dual(&order)
     } else {
         order
+    };
+    permuted(&order, random)
+}
+
+/// A lattice of one to eight levels, most often with levels side by side.
+pub fn small_lattice(random: &mut Random) -> Order {
+    let order = match random.below(16) {
+        0 => chain(1),
+        1..4 => chain(2),
+        4 => chain(3),
+        5..8 => product(&chain(2), &chain(2)),
+        8..10 => product(&product(&chain(2), &chain(2)), &chain(2)),
+        10 => product(&chain(2), &chain(3)),
+        11..14 => parts_between_ends(random.between(5, 8), random),
+        _ => closure_system(8, random),
     };
     permuted(&order, random)
 }

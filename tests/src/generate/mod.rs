@@ -2,10 +2,12 @@
 //! together, and garbage. Where the number is known from how a sheet was made,
 //! the case says so; that is a check of the model by other means.
 
+pub mod calls;
 pub mod damage;
 mod garbage;
 mod levels;
 mod names;
+mod numbering;
 mod tiny;
 mod tree;
 mod valid;

@@ -1,8 +1,8 @@
 //! Random trees of nodes with a wanted count and depth. First a branch of that
 //! depth grows, then inner nodes anywhere until the count is reached, then the
-//! open ends become leaves. The numbering is any in which children are lower
-//! than their parents and the top of the tree is last.
+//! open ends become leaves.
 
+use super::numbering::{numbers, Habit};
 use crate::model::nodes::{Place, Sort, KINDS};
 use crate::model::sheet::Node;
 use crate::random::Random;
@@ -21,30 +21,6 @@ pub struct Plan {
     /// How many fields and constants there are to name.
     pub fields: usize,
     pub constants: usize,
-}
-
-/// Where something grows or is numbered next.
-#[derive(Clone, Copy)]
-enum Habit {
-    Anywhere,
-    Newest,
-    Oldest,
-}
-
-impl Habit {
-    fn any(random: &mut Random) -> Habit {
-        random.pick(&[Habit::Anywhere, Habit::Newest, Habit::Oldest])
-    }
-
-    /// Takes one of a list; mostly after the habit.
-    fn take(self, list: &mut Vec<usize>, random: &mut Random) -> usize {
-        let place = match self {
-            Habit::Newest if !random.once_in(8) => list.len() - 1,
-            Habit::Oldest if !random.once_in(8) => 0,
-            _ => random.below(list.len()),
-        };
-        list.remove(place)
-    }
 }
 
 /// A node of a growing tree; it has a kind once it has grown.
@@ -182,16 +158,10 @@ impl Growing {
         }
     }
 
-    /// Numbers the branches from the last node down, parents before children.
+    /// The branches as numbered nodes.
     fn numbered(&self, plan: &Plan, random: &mut Random) -> Vec<Node> {
-        let habit = Habit::any(random);
-        let mut number_of = vec![0; self.branches.len()];
-        let mut ready = vec![0];
-        for number in (0..self.branches.len()).rev() {
-            let id = habit.take(&mut ready, random);
-            number_of[id] = number;
-            ready.extend(&self.branches[id].children);
-        }
+        let children = |id: usize| &self.branches[id].children[..];
+        let number_of = numbers(self.branches.len(), children, random);
         let mut nodes = vec![Node::default(); self.branches.len()];
         for (branch, &number) in self.branches.iter().zip(&number_of) {
             nodes[number] = branch.node(plan, &number_of, random);

@@ -19,6 +19,24 @@ pub mod number {
     pub const USE: u8 = 6;
     /// Row 7: depth over 64.
     pub const DEPTH: u8 = 7;
+    /// Row 8: store length or count doesn't fit the sheet.
+    pub const STORE: u8 = 8;
+    /// Row 9: a mark above 31 or its level unknown; in a strict run also a partial mark.
+    pub const MARK: u8 = 9;
+    /// Row 10: mode not 0 (strict) or 1 (permissive), or fuel over 1,000,000.
+    pub const MODE_OR_FUEL: u8 = 10;
+    /// Row 11: output shorter than the store.
+    pub const OUTPUT: u8 = 11;
+    /// Row 12: fuel used up.
+    pub const FUEL_USED_UP: u8 = 12;
+    /// Row 13: result out of range.
+    pub const OUT_OF_RANGE: u8 = 13;
+    /// Row 14: divisor 0.
+    pub const DIVISOR: u8 = 14;
+    /// Row 15: strict: context not at or below the field's level.
+    pub const CONTEXT: u8 = 15;
+    /// Row 16: permissive: partial test.
+    pub const PARTIAL_TEST: u8 = 16;
 }
 
 /// The answer of a call.

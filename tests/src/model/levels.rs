@@ -83,6 +83,22 @@ impl Levels {
         self.rows[i] >> j & 1 == 1
     }
 
+    /// BOT, the lowest level.
+    pub fn bottom(&self) -> usize {
+        let lowest = |&low: &usize| self.each().all(|level| self.at_or_below(low, level));
+        self.each()
+            .find(lowest)
+            .expect("a lattice has a lowest level")
+    }
+
+    /// TOP, the highest level.
+    pub fn top(&self) -> usize {
+        let highest = |&high: &usize| self.each().all(|level| self.at_or_below(level, high));
+        self.each()
+            .find(highest)
+            .expect("a lattice has a highest level")
+    }
+
     fn is_upper_bound(&self, bound: usize, i: usize, j: usize) -> bool {
         self.at_or_below(i, bound) && self.at_or_below(j, bound)
     }

@@ -2,16 +2,25 @@
 //! words. A sheet is read into a typed value, which the checks then judge in
 //! the order of the table. It aims at being plain, not at being fast.
 
+pub mod agree;
 pub mod answer;
+pub mod follow;
 pub mod levels;
+pub mod marks;
 pub mod names;
 pub mod nodes;
+pub mod rules;
+pub mod run;
 pub mod sheet;
+pub mod store;
 pub mod tree;
 #[cfg(test)]
 mod trials;
+pub mod typed;
+pub mod values;
 
 pub use answer::{number, Answer};
+pub use run::{run, Call, Outcome};
 pub use sheet::Sheet;
 
 /// A row of the table that judges the typed sheet.

@@ -27,34 +27,34 @@ packed rows low high mode n task e is-low is-high few-low few-high few-mode =
       node = omega arith;
     }
 
-few : (c : tie.After-highest) → (c .before .lowest .result < 16) × (c .highest .result < 16)
+few : (c : tie.After-highest) → (c .before .lowest .result < 16) × (c .highest .result < 16) × (c .before .before .before .args .mode ≤ 1)
 few c =
     let start = c .before .before .before in
     let levels = facts (now (start .args .rows)) (start .pre .0) .few in
-    (omega (arith, c .before .lowest .ensures .1), omega (arith, c .highest .ensures .1))
+    (omega (arith, c .before .lowest .ensures .1), omega (arith, c .highest .ensures .1), start .pre .1)
 
 mul-bounds : tie.Need-mul-bounds
-mul-bounds c = omega (arith, few c .1)
+mul-bounds c = omega (arith, few c)
 
 add-bounds : tie.Need-add-bounds
-add-bounds c = omega (arith, few c .0, few c .1)
+add-bounds c = omega (arith, few c)
 
 add-result : tie.Need-add-result
-add-result c = let start = c .before .before .before in omega (arith, few c .0, few c .1, start .pre .1)
+add-result c = omega (arith, few c)
 
 mul-result-2 : tie.Need-mul-result-2
-mul-result-2 c = omega (arith, few c .0)
+mul-result-2 c = omega (arith, few c)
 
 add-result-2 : tie.Need-add-result-2
-add-result-2 c = let start = c .before .before .before in omega (arith, few c .0, few c .1, start .pre .1)
+add-result-2 c = omega (arith, few c)
 
 add-result-3 : tie.Need-add-result-3
-add-result-3 c = let start = c .before .before .before in omega (arith, few c .0, few c .1, start .pre .1)
+add-result-3 c = omega (arith, few c)
 
 returns : tie.Need-returns
 returns c =
-    let start = c .before .before .before in
-    packed _ _ _ _ _ _ (omega arith) (c .before .lowest .ensures .0) (c .highest .ensures .0) (few c .0) (few c .1) (start .pre .1)
+    let (low, high, mode) = few c in
+    packed _ _ _ _ _ _ (omega arith) (c .before .lowest .ensures .0) (c .highest .ensures .0) low high mode
 
 pub first-task-spec : {M : Type 1} → statement M
 first-task-spec =

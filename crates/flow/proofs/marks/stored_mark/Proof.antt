@@ -1,10 +1,10 @@
 -- Three cases: the context at or below the field's level, else strict, else permissive.
 use borrow.Author.Needs.{needs}
-use Prim.Native.Nat.{_%_, _<_}
+use Prim.Native.Nat.{ℕ, _%_, _<_}
 use native.Mathlib.Omega.{arith}
-use mathlib.Core.Path.{_≡_, sym, _∙_}
+use mathlib.Core.Path.{_≡_, sym, ap, _∙_}
 use denote.Ref.{now}
-use Rattle.levels.specs.Levels.{below, Two}
+use Rattle.levels.specs.Levels.{below, meetOf, Two}
 use Rattle.levels.proofs.Facts.{facts}
 use Rattle.flow.specs.Tasks.{contextIn}
 use Rattle.flow.proofs.Marking.{known-is, known-of, mark-whole, stored-below, stored-strict, stored-permissive}
@@ -59,7 +59,9 @@ returns-2 c =
     stored-strict _ (start .args .task) _ _ (start .pre .0 .first) (start .pre .1) (order-is test ∙ c .before .if1 .left) (c .if2 .taken)
 
 meet-requires : tie.Need-meet-requires
-meet-requires c κs = two (c .before .before .before)
+meet-requires c κs =
+    let both = two (c .before .before .before) in
+    record { rows = both .rows; first = omega (arith, both .first, both .second); second = both .second }
 
 meet-few : (c : tie.After-meet) → c .meet .result < 16
 meet-few c =
@@ -78,7 +80,7 @@ returns-3 c =
     let context = test .before in
     let start = context .before .before in
     stored-permissive _ (start .args .task) _ _ (start .pre .0 .first) (start .pre .1) _ (order-is test ∙ c .before .before .if1 .left) (c .before .if2 .left)
-    (rw (context .context-in .ensures) at (c .meet .ensures .0)) (meet-few c) (c .meet .ensures .1)
+    (c .meet .ensures .0 ∙ ap (λ (k : ℕ). meetOf (now (start .args .rows)) k (start .args .old % 16)) (context .context-in .ensures)) (meet-few c) (c .meet .ensures .1)
 
 pub stored-mark-spec : {M : Type 1} → statement M
 stored-mark-spec =

@@ -1,7 +1,7 @@
-//! The comparison of the model with another judge of sheets, sheet by sheet,
-//! up to the first difference. The model is also held against the numbers that
-//! the generator knows.
+//! The comparison of the model's load with another judge of sheets, sheet by
+//! sheet. The model is also held against the numbers that the generator knows.
 
+use super::hex;
 use crate::generate::{case, Case};
 use crate::model::{self, number, Answer};
 use std::fmt;
@@ -25,11 +25,8 @@ impl From<Answer> for Judgement {
     }
 }
 
-/// How often each number came back.
-pub type Histogram = [u64; NUMBERS];
-
-/// Numbers 0 to 7.
-pub const NUMBERS: usize = number::DEPTH as usize + 1;
+/// How often each of load's numbers, 0 to 7, came back.
+pub type Histogram = [u64; number::DEPTH as usize + 1];
 
 /// A sheet on which the model, the judge and the generator don't agree.
 pub struct Difference {
@@ -47,7 +44,7 @@ pub fn compare(
     indexes: Range<u64>,
     judge: &dyn Fn(&[u8]) -> Judgement,
 ) -> Result<Histogram, Box<Difference>> {
-    let mut histogram = [0; NUMBERS];
+    let mut histogram = Histogram::default();
     for index in indexes {
         let Case { bytes, expected } = case(seed, index);
         let model = model::load(&bytes);
@@ -88,10 +85,7 @@ impl fmt::Display for Difference {
         if !sheet_kept {
             writeln!(out, "the archive wrote into the sheet")?;
         }
-        write!(out, "sheet of {} bytes: ", self.sheet.len())?;
-        self.sheet
-            .iter()
-            .try_for_each(|byte| write!(out, "{byte:02x}"))
+        hex(out, "sheet", &self.sheet)
     }
 }
 

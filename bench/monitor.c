@@ -1,0 +1,637 @@
+/* The monitor by hand in C: load judges a sheet's bytes in place, run works on node numbers by recursion.
+ *
+ * Joins and meets are found from the order rows. A field's value and mark are kept in one word, so that an expression's
+ * result comes back in a register. No heap, and nothing is kept between calls. */
+#include "monitor.h"
+
+#include <stdbool.h>
+#include <string.h>
+
+struct section {
+    const uint8_t *entries;
+    unsigned count;
+};
+
+struct sheet {
+    struct section levels, fields, constants, nodes;
+};
+
+static inline unsigned two_bytes(const uint8_t *at)
+{
+    return at[0] | (unsigned)at[1] << 8;
+}
+
+static inline uint32_t four_bytes(const uint8_t *at)
+{
+    return two_bytes(at) | (uint32_t)two_bytes(at + 2) << 16;
+}
+
+/* The sections: numbers 1 and 2, in byte order. */
+
+struct rest {
+    const uint8_t *at;
+    size_t length;
+};
+
+static unsigned read_section(struct rest *rest, unsigned least, unsigned most, size_t size, struct section *section)
+{
+    if (rest->length < COUNT_SIZE)
+        return SHEET_LENGTH;
+    section->count = two_bytes(rest->at);
+    section->entries = rest->at + COUNT_SIZE;
+    if (section->count < least || most < section->count)
+        return COUNT_OUTSIDE;
+    size_t covered = COUNT_SIZE + section->count * size;
+    if (rest->length < covered)
+        return SHEET_LENGTH;
+    rest->at += covered;
+    rest->length -= covered;
+    return DONE;
+}
+
+static unsigned read_sheet(const uint8_t *bytes, size_t length, struct sheet *sheet)
+{
+    struct rest rest = {bytes, length};
+    unsigned number = read_section(&rest, 1, LEVELS, LEVEL_SIZE, &sheet->levels);
+    if (number == DONE)
+        number = read_section(&rest, 1, FIELDS, FIELD_SIZE, &sheet->fields);
+    if (number == DONE)
+        number = read_section(&rest, 0, CONSTANTS, CONSTANT_SIZE, &sheet->constants);
+    if (number == DONE)
+        number = read_section(&rest, 1, NODES, NODE_SIZE, &sheet->nodes);
+    if (number == DONE && rest.length != 0)
+        number = SHEET_LENGTH;
+    return number;
+}
+
+/* The levels: number 3, and what runs ask of them. */
+
+struct levels {
+    unsigned count;
+    uint16_t rows[LEVELS];
+};
+
+static void read_levels(const struct section *section, struct levels *levels)
+{
+    levels->count = section->count;
+    for (unsigned i = 0; i < section->count; i++)
+        levels->rows[i] = (uint16_t)two_bytes(section->entries + LEVEL_SIZE * i);
+}
+
+static inline bool at_or_below(const struct levels *levels, unsigned i, unsigned j)
+{
+    return levels->rows[i] >> j & 1;
+}
+
+/* The level with this row, or the count if there is none. */
+static inline unsigned with_row(const struct levels *levels, unsigned row)
+{
+    unsigned k = 0;
+    while (k < levels->count && levels->rows[k] != row)
+        k++;
+    return k;
+}
+
+/* Above the join of two levels lies exactly what lies above both. */
+static inline unsigned join(const struct levels *levels, unsigned i, unsigned j)
+{
+    if (at_or_below(levels, i, j))
+        return j;
+    if (at_or_below(levels, j, i))
+        return i;
+    return with_row(levels, levels->rows[i] & levels->rows[j]);
+}
+
+/* Above the meet of two levels lies exactly what lies above every level that is below both. */
+static unsigned meet(const struct levels *levels, unsigned i, unsigned j)
+{
+    unsigned both = 1u << i | 1u << j;
+    unsigned row = 0xffff;
+    for (unsigned k = 0; k < levels->count; k++)
+        if ((levels->rows[k] & both) == both)
+            row &= levels->rows[k];
+    return with_row(levels, row);
+}
+
+static inline unsigned all_levels(const struct levels *levels)
+{
+    return (1u << levels->count) - 1;
+}
+
+static unsigned lowest(const struct levels *levels)
+{
+    return with_row(levels, all_levels(levels));
+}
+
+static unsigned highest(const struct levels *levels)
+{
+    unsigned row = all_levels(levels);
+    for (unsigned k = 0; k < levels->count; k++)
+        row &= levels->rows[k];
+    return with_row(levels, row);
+}
+
+/* Level i in a partial order: at or below itself, below no level that is below it, below all that is above a level
+ * above it; and no bit at or past the count. */
+static bool ordered(const struct levels *levels, unsigned i)
+{
+    unsigned row = levels->rows[i];
+    if ((row >> i & 1) == 0 || (row & ~all_levels(levels)) != 0)
+        return false;
+    for (unsigned above = row & ~(1u << i); above != 0; above &= above - 1) {
+        unsigned other = levels->rows[__builtin_ctz(above)];
+        if ((other >> i & 1) != 0 || (other & ~row) != 0)
+            return false;
+    }
+    return true;
+}
+
+static bool joins_with_earlier(const struct levels *levels, unsigned i)
+{
+    for (unsigned j = 0; j < i; j++)
+        if (with_row(levels, levels->rows[i] & levels->rows[j]) == levels->count)
+            return false;
+    return true;
+}
+
+/* Joins and a lowest level give every two levels a meet: the join of all that lie below both. */
+static bool levels_right(const struct levels *levels)
+{
+    for (unsigned i = 0; i < levels->count; i++)
+        if (!ordered(levels, i) || !joins_with_earlier(levels, i))
+            return false;
+    return lowest(levels) < levels->count;
+}
+
+/* The names: number 4. */
+
+static inline bool letter(uint8_t byte)
+{
+    return 'a' <= byte && byte <= 'z';
+}
+
+static inline bool letter_digit_or_underscore(uint8_t byte)
+{
+    return letter(byte) || ('0' <= byte && byte <= '9') || byte == '_';
+}
+
+static bool name_right(const uint8_t *name)
+{
+    if (!letter(name[0]))
+        return false;
+    unsigned end = 1;
+    while (end < FIELD_SIZE && letter_digit_or_underscore(name[end]))
+        end++;
+    while (end < FIELD_SIZE && name[end] == 0)
+        end++;
+    return end == FIELD_SIZE;
+}
+
+/* Whether name i is none of those before it; names are compared as numbers. */
+static inline bool name_new(const uint64_t *names, unsigned i)
+{
+    for (unsigned j = 0; j < i; j++)
+        if (names[j] == names[i])
+            return false;
+    return true;
+}
+
+static bool names_right(const struct section *fields)
+{
+    uint64_t names[FIELDS];
+    memcpy(names, fields->entries, (size_t)FIELD_SIZE * fields->count);
+    for (unsigned i = 0; i < fields->count; i++)
+        if (!name_right(fields->entries + FIELD_SIZE * i) || !name_new(names, i))
+            return false;
+    return true;
+}
+
+/* The nodes: number 5. */
+
+static inline const uint8_t *node_at(const uint8_t *nodes, unsigned n)
+{
+    return nodes + (size_t)NODE_SIZE * n;
+}
+
+static inline unsigned a_of(const uint8_t *node)
+{
+    return two_bytes(node + 2);
+}
+
+static inline unsigned b_of(const uint8_t *node)
+{
+    return two_bytes(node + 4);
+}
+
+static inline unsigned c_of(const uint8_t *node)
+{
+    return two_bytes(node + 6);
+}
+
+/* Whether a child's number is lower than n and its sort is the one wanted. */
+static inline bool expression(const uint8_t *nodes, unsigned child, unsigned n)
+{
+    return child < n && node_at(nodes, child)[0] <= SEAL;
+}
+
+static inline bool command(const uint8_t *nodes, unsigned child, unsigned n)
+{
+    return child < n && node_at(nodes, child)[0] > SEAL;
+}
+
+static inline bool node_right(const struct sheet *sheet, unsigned n)
+{
+    const uint8_t *nodes = sheet->nodes.entries;
+    const uint8_t *node = node_at(nodes, n);
+    unsigned kind = node[0], a = a_of(node), b = b_of(node), c = c_of(node);
+    if (node[1] >= (kind == OPERATOR ? OPERATORS : 1))
+        return false;
+    switch (kind) {
+    case CONSTANT:
+        return a < sheet->constants.count && (b | c) == 0;
+    case FIELD:
+        return a < sheet->fields.count && (b | c) == 0;
+    case OPERATOR:
+        return expression(nodes, a, n) && expression(nodes, b, n) && c == 0;
+    case NOT:
+    case SEAL:
+        return expression(nodes, a, n) && (b | c) == 0;
+    case SKIP:
+        return (a | b | c) == 0;
+    case ASSIGNMENT:
+        return a < sheet->fields.count && expression(nodes, b, n) && c == 0;
+    case SEQUENCE:
+        return command(nodes, a, n) && command(nodes, b, n) && c == 0;
+    case IF:
+        return expression(nodes, a, n) && command(nodes, b, n) && command(nodes, c, n);
+    case WHILE:
+        return expression(nodes, a, n) && command(nodes, b, n) && c == 0;
+    default:
+        return false;
+    }
+}
+
+static bool nodes_right(const struct sheet *sheet)
+{
+    for (unsigned n = 0; n < sheet->nodes.count; n++)
+        if (!node_right(sheet, n))
+            return false;
+    return true;
+}
+
+/* The tree: numbers 6 and 7. */
+
+/* The depth of each node, 0 while it is nobody's child. */
+struct depths {
+    uint8_t of[NODES];
+    bool used_once;
+};
+
+static inline void put_below(struct depths *depths, unsigned child, unsigned depth)
+{
+    depths->used_once &= depths->of[child] == 0;
+    depths->of[child] = (uint8_t)depth;
+}
+
+static inline void put_children_below(struct depths *depths, const uint8_t *node, unsigned depth)
+{
+    switch (node[0]) {
+    case IF:
+        put_below(depths, c_of(node), depth);
+        /* fall through */
+    case OPERATOR:
+    case SEQUENCE:
+    case WHILE:
+        put_below(depths, a_of(node), depth);
+        /* fall through */
+    case ASSIGNMENT:
+        put_below(depths, b_of(node), depth);
+        break;
+    case NOT:
+    case SEAL:
+        put_below(depths, a_of(node), depth);
+        break;
+    }
+}
+
+/* Parents come after their children, so one walk from the last node down meets each node with its depth known. */
+static unsigned judge_tree(const struct section *nodes)
+{
+    struct depths depths = {{0}, true};
+    unsigned last = nodes->count - 1, deepest = 1;
+    if (node_at(nodes->entries, last)[0] <= SEAL)
+        return NOT_USED_ONCE;
+    depths.of[last] = 1;
+    for (unsigned n = nodes->count; n-- > 0;) {
+        unsigned depth = depths.of[n];
+        if (depth == 0)
+            return NOT_USED_ONCE;
+        if (deepest < depth)
+            deepest = depth;
+        put_children_below(&depths, node_at(nodes->entries, n), depth < DEPTH ? depth + 1 : DEPTH + 1);
+    }
+    if (!depths.used_once)
+        return NOT_USED_ONCE;
+    return deepest <= DEPTH ? DONE : TOO_DEEP;
+}
+
+/* Load. */
+
+static unsigned judge(const uint8_t *bytes, size_t length, struct sheet *sheet, struct levels *levels)
+{
+    unsigned number = read_sheet(bytes, length, sheet);
+    if (number != DONE)
+        return number;
+    read_levels(&sheet->levels, levels);
+    if (!levels_right(levels))
+        return LEVELS_WRONG;
+    if (!names_right(&sheet->fields))
+        return NAME_WRONG;
+    if (!nodes_right(sheet))
+        return NODE_WRONG;
+    return judge_tree(&sheet->nodes);
+}
+
+uint64_t c_load(const uint8_t *sheet, size_t sheet_len)
+{
+    struct sheet read;
+    struct levels levels;
+    return judge(sheet, sheet_len, &read, &levels);
+}
+
+/* Expressions. A result is a value in bits 0 to 31 and its mark in bits 32 to 36,
+ * or STOPPED with the answer word's number and place. */
+
+typedef uint64_t result;
+
+#define STOPPED ((result)1 << 63)
+
+struct run {
+    const uint8_t *nodes, *constants;
+    struct levels levels;
+    unsigned lowest, highest, mode;
+    uint32_t left;
+    result fields[FIELDS];
+};
+
+static inline result marked(unsigned mark, int32_t value)
+{
+    return (result)mark << 32 | (uint32_t)value;
+}
+
+static inline int32_t value_of(result r)
+{
+    return (int32_t)(uint32_t)r;
+}
+
+static inline unsigned mark_of(result r)
+{
+    return (unsigned)(r >> 32);
+}
+
+static inline unsigned level_of(unsigned mark)
+{
+    return mark & (PARTIAL - 1);
+}
+
+static inline unsigned join_marks(const struct levels *levels, unsigned m, unsigned k)
+{
+    if (m == k)
+        return m;
+    return join(levels, level_of(m), level_of(k)) | ((m | k) & PARTIAL);
+}
+
+static inline unsigned stop(unsigned number, unsigned place)
+{
+    return number | place << 8;
+}
+
+/* What an operator gives, or the number that it stops with. */
+static inline unsigned apply(unsigned operator, int32_t x, int32_t y, int32_t *value)
+{
+    switch (operator) {
+    case ADD:
+        return __builtin_add_overflow(x, y, value) ? OUT_OF_RANGE : DONE;
+    case SUBTRACT:
+        return __builtin_sub_overflow(x, y, value) ? OUT_OF_RANGE : DONE;
+    case MULTIPLY:
+        return __builtin_mul_overflow(x, y, value) ? OUT_OF_RANGE : DONE;
+    case DIVIDE:
+        if (y == -1)
+            return __builtin_sub_overflow(0, x, value) ? OUT_OF_RANGE : DONE;
+        *value = y != 0 ? x / y : 0;
+        return y != 0 ? DONE : DIVISOR_ZERO;
+    case REMAINDER:
+        *value = y != 0 && y != -1 ? x % y : 0;
+        return y != 0 ? DONE : DIVISOR_ZERO;
+    case EQUAL:
+        *value = x == y;
+        return DONE;
+    case LESS:
+        *value = x < y;
+        return DONE;
+    case AT_MOST:
+        *value = x <= y;
+        return DONE;
+    case AND:
+        *value = x != 0 && y != 0;
+        return DONE;
+    default:
+        *value = x != 0 || y != 0;
+        return DONE;
+    }
+}
+
+static inline result constant_at(const struct run *run, unsigned index)
+{
+    return marked(run->lowest, (int32_t)four_bytes(run->constants + CONSTANT_SIZE * index));
+}
+
+static result work_out(const struct run *run, unsigned n);
+
+/* Most operands are fields and constants; they need no call. */
+static inline result operand(const struct run *run, unsigned n)
+{
+    const uint8_t *node = node_at(run->nodes, n);
+    if (node[0] == FIELD)
+        return run->fields[a_of(node)];
+    if (node[0] == CONSTANT)
+        return constant_at(run, a_of(node));
+    return work_out(run, n);
+}
+
+static inline result work_out_operator(const struct run *run, const uint8_t *node, unsigned n)
+{
+    result left = operand(run, a_of(node));
+    if (left & STOPPED)
+        return left;
+    result right = operand(run, b_of(node));
+    if (right & STOPPED)
+        return right;
+    int32_t value;
+    unsigned number = apply(node[1], value_of(left), value_of(right), &value);
+    if (number != DONE)
+        return STOPPED | stop(number, n);
+    return marked(join_marks(&run->levels, mark_of(left), mark_of(right)), value);
+}
+
+static result work_out(const struct run *run, unsigned n)
+{
+    const uint8_t *node = node_at(run->nodes, n);
+    result inner;
+    switch (node[0]) {
+    case CONSTANT:
+        return constant_at(run, a_of(node));
+    case FIELD:
+        return run->fields[a_of(node)];
+    case OPERATOR:
+        return work_out_operator(run, node, n);
+    case NOT:
+        inner = work_out(run, a_of(node));
+        return inner & STOPPED ? inner : marked(mark_of(inner), value_of(inner) == 0);
+    default:
+        inner = work_out(run, a_of(node));
+        return inner & STOPPED ? inner : marked(run->highest, value_of(inner));
+    }
+}
+
+/* Commands. Each answers 0, or number and place of its stop. */
+
+static inline unsigned assign(struct run *run, const uint8_t *node, unsigned n, unsigned context)
+{
+    result worked = work_out(run, b_of(node));
+    if (worked & STOPPED)
+        return (unsigned)worked;
+    result *field = &run->fields[a_of(node)];
+    unsigned level = level_of(mark_of(*field));
+    if (at_or_below(&run->levels, context, level))
+        *field = marked(join_marks(&run->levels, mark_of(worked), context), value_of(worked));
+    else if (run->mode == STRICT)
+        return stop(CONTEXT_ABOVE, n);
+    else
+        *field = marked(meet(&run->levels, context, level) | PARTIAL, value_of(worked));
+    return DONE;
+}
+
+static inline unsigned skip_or_assign(struct run *run, const uint8_t *node, unsigned n, unsigned context)
+{
+    if (run->left == 0)
+        return stop(FUEL_USED_UP, n);
+    run->left--;
+    return node[0] == SKIP ? DONE : assign(run, node, n, context);
+}
+
+/* Spends the test's unit and works it out; its value comes back with the context joined with its level. */
+static inline result test(struct run *run, const uint8_t *node, unsigned n, unsigned context)
+{
+    if (run->left == 0)
+        return STOPPED | stop(FUEL_USED_UP, n);
+    run->left--;
+    result worked = work_out(run, a_of(node));
+    if (worked & STOPPED)
+        return worked;
+    if (mark_of(worked) & PARTIAL)
+        return STOPPED | stop(PARTIAL_TEST, n);
+    return marked(join_marks(&run->levels, mark_of(worked), context), value_of(worked));
+}
+
+static unsigned go(struct run *run, unsigned n, unsigned context);
+
+static inline unsigned go_while(struct run *run, const uint8_t *node, unsigned n, unsigned context)
+{
+    for (;;) {
+        result tested = test(run, node, n, context);
+        if (tested & STOPPED)
+            return (unsigned)tested;
+        if (value_of(tested) == 0)
+            return DONE;
+        context = mark_of(tested);
+        unsigned stopped = go(run, b_of(node), context);
+        if (stopped)
+            return stopped;
+    }
+}
+
+/* The second command of a sequence and the chosen one of an if go on in the same frame. */
+static unsigned go(struct run *run, unsigned n, unsigned context)
+{
+    for (;;) {
+        const uint8_t *node = node_at(run->nodes, n);
+        if (node[0] == SEQUENCE) {
+            unsigned stopped = go(run, a_of(node), context);
+            if (stopped)
+                return stopped;
+            n = b_of(node);
+        } else if (node[0] == IF) {
+            result tested = test(run, node, n, context);
+            if (tested & STOPPED)
+                return (unsigned)tested;
+            context = mark_of(tested);
+            n = value_of(tested) != 0 ? b_of(node) : c_of(node);
+        } else if (node[0] == WHILE) {
+            return go_while(run, node, n, context);
+        } else {
+            return skip_or_assign(run, node, n, context);
+        }
+    }
+}
+
+/* Run. */
+
+/* Reads the store's entries; number 9. */
+static bool read_entries(struct run *run, const uint8_t *store, unsigned fields)
+{
+    unsigned marks = run->mode == STRICT ? PARTIAL : MARKS;
+    for (unsigned i = 0; i < fields; i++) {
+        const uint8_t *entry = store + COUNT_SIZE + ENTRY_SIZE * i;
+        if (entry[0] >= marks || level_of(entry[0]) >= run->levels.count)
+            return false;
+        run->fields[i] = marked(entry[0], (int32_t)four_bytes(entry + 1));
+    }
+    return true;
+}
+
+static void write_store(const struct run *run, uint8_t *out, unsigned fields)
+{
+    out[0] = (uint8_t)fields;
+    out[1] = 0;
+    for (unsigned i = 0; i < fields; i++) {
+        uint8_t *entry = out + COUNT_SIZE + ENTRY_SIZE * i;
+        uint32_t value = (uint32_t)value_of(run->fields[i]);
+        entry[0] = (uint8_t)mark_of(run->fields[i]);
+        entry[1] = (uint8_t)value;
+        entry[2] = (uint8_t)(value >> 8);
+        entry[3] = (uint8_t)(value >> 16);
+        entry[4] = (uint8_t)(value >> 24);
+    }
+}
+
+uint64_t c_run(const uint8_t *sheet, size_t sheet_len, const uint8_t *store, size_t store_len,
+               uint32_t mode, uint32_t fuel, uint8_t *out, size_t out_len)
+{
+    struct sheet read;
+    struct run run;
+    if (mode > PERMISSIVE || fuel > FUEL_LIMIT)
+        return MODE_OR_FUEL;
+    unsigned number = judge(sheet, sheet_len, &read, &run.levels);
+    if (number != DONE)
+        return number;
+    unsigned fields = read.fields.count;
+    size_t store_size = COUNT_SIZE + (size_t)ENTRY_SIZE * fields;
+    if (store_len != store_size || two_bytes(store) != fields)
+        return STORE_SIZE;
+    run.mode = mode;
+    if (!read_entries(&run, store, fields))
+        return MARK_WRONG;
+    if (out_len < store_size)
+        return OUTPUT_SHORT;
+    run.nodes = read.nodes.entries;
+    run.constants = read.constants.entries;
+    run.lowest = lowest(&run.levels);
+    run.highest = highest(&run.levels);
+    run.left = fuel;
+    unsigned stopped = go(&run, read.nodes.count - 1, run.lowest);
+    if (!stopped)
+        write_store(&run, out, fields);
+    return stopped | (uint64_t)(fuel - run.left) << 32;
+}

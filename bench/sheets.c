@@ -1,0 +1,197 @@
+/* Sheets and stores, built from their parts. */
+#include "sheets.h"
+
+#include <string.h>
+
+void begin(struct draft *draft, unsigned levels, const uint16_t *rows)
+{
+    memset(draft, 0, sizeof *draft);
+    draft->levels = levels;
+    memcpy(draft->rows, rows, levels * sizeof *rows);
+}
+
+void begin_cube(struct draft *draft)
+{
+    uint16_t rows[LEVELS] = {0};
+    for (unsigned i = 0; i < LEVELS; i++)
+        for (unsigned j = 0; j < LEVELS; j++)
+            if ((i & j) == i)
+                rows[i] |= (uint16_t)(1u << j);
+    begin(draft, LEVELS, rows);
+}
+
+unsigned new_field(struct draft *draft, unsigned mark, int32_t value)
+{
+    draft->marks[draft->fields] = (uint8_t)mark;
+    draft->values[draft->fields] = value;
+    return draft->fields++;
+}
+
+/* Nodes. */
+
+static void put_two(uint8_t *at, unsigned number)
+{
+    at[0] = (uint8_t)number;
+    at[1] = (uint8_t)(number >> 8);
+}
+
+static void put_four(uint8_t *at, uint32_t number)
+{
+    put_two(at, number & 0xffff);
+    put_two(at + 2, number >> 16);
+}
+
+static unsigned node(struct draft *draft, enum kind kind, unsigned a, unsigned b, unsigned c)
+{
+    uint8_t *node = draft->nodes[draft->node_count];
+    node[0] = (uint8_t)kind;
+    node[1] = 0;
+    put_two(node + 2, a);
+    put_two(node + 4, b);
+    put_two(node + 6, c);
+    return draft->node_count++;
+}
+
+unsigned constant(struct draft *draft, int32_t value)
+{
+    unsigned i = 0;
+    while (i < draft->constant_count && draft->constants[i] != value)
+        i++;
+    if (i == draft->constant_count)
+        draft->constants[draft->constant_count++] = value;
+    return node(draft, CONSTANT, i, 0, 0);
+}
+
+unsigned field(struct draft *draft, unsigned field)
+{
+    return node(draft, FIELD, field, 0, 0);
+}
+
+unsigned operation(struct draft *draft, enum operator operator, unsigned left, unsigned right)
+{
+    unsigned n = node(draft, OPERATOR, left, right, 0);
+    draft->nodes[n][1] = (uint8_t)operator;
+    return n;
+}
+
+unsigned not(struct draft *draft, unsigned expression)
+{
+    return node(draft, NOT, expression, 0, 0);
+}
+
+unsigned seal(struct draft *draft, unsigned expression)
+{
+    return node(draft, SEAL, expression, 0, 0);
+}
+
+unsigned skip(struct draft *draft)
+{
+    return node(draft, SKIP, 0, 0, 0);
+}
+
+unsigned assignment(struct draft *draft, unsigned field, unsigned expression)
+{
+    return node(draft, ASSIGNMENT, field, expression, 0);
+}
+
+unsigned sequence(struct draft *draft, unsigned first, unsigned second)
+{
+    return node(draft, SEQUENCE, first, second, 0);
+}
+
+unsigned if_else(struct draft *draft, unsigned test, unsigned first, unsigned second)
+{
+    return node(draft, IF, test, first, second);
+}
+
+unsigned while_do(struct draft *draft, unsigned test, unsigned body)
+{
+    return node(draft, WHILE, test, body, 0);
+}
+
+unsigned all_of(struct draft *draft, const unsigned *commands, unsigned count)
+{
+    if (count == 1)
+        return commands[0];
+    unsigned first = all_of(draft, commands, count / 2);
+    unsigned second = all_of(draft, commands + count / 2, count - count / 2);
+    return sequence(draft, first, second);
+}
+
+/* Bytes. */
+
+static void name_of(unsigned field, uint8_t *name)
+{
+    memset(name, 0, FIELD_SIZE);
+    name[0] = 'f';
+    name[1] = (uint8_t)('0' + field / 10);
+    name[2] = (uint8_t)('0' + field % 10);
+}
+
+static uint8_t *grow(struct bytes *bytes, size_t size)
+{
+    uint8_t *at = bytes->at + bytes->length;
+    bytes->length += size;
+    return at;
+}
+
+void sheet_of(const struct draft *draft, struct bytes *sheet)
+{
+    sheet->length = 0;
+    put_two(grow(sheet, COUNT_SIZE), draft->levels);
+    for (unsigned i = 0; i < draft->levels; i++)
+        put_two(grow(sheet, LEVEL_SIZE), draft->rows[i]);
+    put_two(grow(sheet, COUNT_SIZE), draft->fields);
+    for (unsigned i = 0; i < draft->fields; i++)
+        name_of(i, grow(sheet, FIELD_SIZE));
+    put_two(grow(sheet, COUNT_SIZE), draft->constant_count);
+    for (unsigned i = 0; i < draft->constant_count; i++)
+        put_four(grow(sheet, CONSTANT_SIZE), (uint32_t)draft->constants[i]);
+    put_two(grow(sheet, COUNT_SIZE), draft->node_count);
+    memcpy(grow(sheet, NODE_SIZE * draft->node_count), draft->nodes, NODE_SIZE * draft->node_count);
+}
+
+void store_of(const struct draft *draft, struct bytes *store)
+{
+    store->length = 0;
+    put_two(grow(store, COUNT_SIZE), draft->fields);
+    for (unsigned i = 0; i < draft->fields; i++) {
+        uint8_t *entry = grow(store, ENTRY_SIZE);
+        entry[0] = draft->marks[i];
+        put_four(entry + 1, (uint32_t)draft->values[i]);
+    }
+}
+
+/* The largest sheet. */
+
+/* One of four commands of four nodes each, which have all kinds but the sequence among them. */
+static unsigned four_nodes(struct draft *d, unsigned i)
+{
+    unsigned f = i % FIELDS;
+    int32_t value = (int32_t)i;
+    switch (i % 4) {
+    case 0:
+        return assignment(d, f, operation(d, (enum operator)(i / 4 % OPERATORS), field(d, f), constant(d, value)));
+    case 1:
+        return assignment(d, f, not(d, seal(d, field(d, f))));
+    case 2:
+        return if_else(d, field(d, f), skip(d), skip(d));
+    default:
+        return while_do(d, field(d, f), assignment(d, f, constant(d, value)));
+    }
+}
+
+/* 205 commands of four nodes and the 204 sequences that join them. */
+void draft_largest(struct draft *draft)
+{
+    unsigned commands[(NODES + 1) / 5];
+    unsigned count = sizeof commands / sizeof *commands;
+    begin_cube(draft);
+    for (unsigned i = 0; i < FIELDS; i++)
+        new_field(draft, i % LEVELS, (int32_t)i);
+    for (unsigned i = 0; i < CONSTANTS; i++)
+        draft->constants[draft->constant_count++] = (int32_t)i;
+    for (unsigned i = 0; i < count; i++)
+        commands[i] = four_nodes(draft, i);
+    all_of(draft, commands, count);
+}

@@ -1,0 +1,359 @@
+/* Measures the stack of whole calls: each is made on a painted stack of its own, whose deepest changed byte tells.
+ *
+ * The sheets are 64 deep in every shape of nesting: commands, expressions, and an expression below a nest of commands.
+ * Exit 1 if a call of the archive takes more than the limit. */
+#define _GNU_SOURCE
+#include "calls.h"
+#include "monitor.h"
+#include "sheets.h"
+
+#include <stdio.h>
+#include <stdlib.h>
+#include <string.h>
+#include <sys/mman.h>
+#include <ucontext.h>
+
+enum { STACK_LIMIT = 8192, STACK_SIZE = 65536, GUARD_SIZE = 4096 };
+
+/* Enough for the way down to the deepest command and some rounds there. */
+enum { FUEL = 200 };
+
+static void fail(const char *what)
+{
+    fprintf(stderr, "%s\n", what);
+    exit(EXIT_FAILURE);
+}
+
+/* A call on a stack of its own: run, or load if run is null. */
+
+struct call {
+    load_call load;
+    run_call run;
+    const struct bytes *sheet, *store;
+    uint32_t mode;
+    uint64_t word;
+    const uint8_t *base;
+};
+
+static uint8_t *stack;
+static ucontext_t outside, inside;
+static struct call *current;
+
+/* Below the stack lies a page that must not be touched. */
+static void make_stack(void)
+{
+    uint8_t *pages = mmap(NULL, GUARD_SIZE + STACK_SIZE, PROT_READ | PROT_WRITE, MAP_PRIVATE | MAP_ANONYMOUS, -1, 0);
+    if (pages == MAP_FAILED || mprotect(pages, GUARD_SIZE, PROT_NONE) != 0)
+        fail("no memory for a stack");
+    stack = pages + GUARD_SIZE;
+}
+
+/* All below this function's frame address counts, so its own few words do too. */
+static void make_call(void)
+{
+    static uint8_t out[STORE_MOST];
+    struct call *call = current;
+    const struct bytes *sheet = call->sheet, *store = call->store;
+    call->base = __builtin_frame_address(0);
+    if (call->run == NULL)
+        call->word = call->load(sheet->at, sheet->length);
+    else
+        call->word = call->run(sheet->at, sheet->length, store->at, store->length, call->mode, FUEL, out, sizeof out);
+}
+
+/* Bytes of stack that a call changes below its base, seen against one paint. */
+static unsigned stack_against(struct call *call, uint8_t paint)
+{
+    memset(stack, paint, STACK_SIZE);
+    getcontext(&inside);
+    inside.uc_stack.ss_sp = stack;
+    inside.uc_stack.ss_size = STACK_SIZE;
+    inside.uc_link = &outside;
+    makecontext(&inside, make_call, 0);
+    current = call;
+    swapcontext(&outside, &inside);
+    const uint8_t *deepest = stack;
+    while (*deepest == paint)
+        deepest++;
+    return (unsigned)(call->base - deepest);
+}
+
+/* A byte may be left in the colour of one paint, not of both. */
+static unsigned stack_of(struct call *call)
+{
+    unsigned one = stack_against(call, 0xa5), other = stack_against(call, 0x5a);
+    return one < other ? other : one;
+}
+
+/* Both calls on a draft. */
+
+struct monitor {
+    load_call load;
+    run_call run;
+};
+
+static const struct monitor archive = {beltuqash_load, beltuqash_run}, by_hand = {c_load, c_run};
+
+struct stacks {
+    unsigned load, run;
+};
+
+static void keep_most(struct stacks *most, struct stacks stacks)
+{
+    if (most->load < stacks.load)
+        most->load = stacks.load;
+    if (most->run < stacks.run)
+        most->run = stacks.run;
+}
+
+/* Load's stack and run's, the greater of both modes. Each ends with one of the numbers in the set. */
+static struct stacks measure(const struct monitor *monitor, const struct draft *draft, unsigned numbers)
+{
+    static struct bytes sheet, store;
+    sheet_of(draft, &sheet);
+    store_of(draft, &store);
+    struct stacks most = {0, 0};
+    for (uint32_t mode = STRICT; mode <= PERMISSIVE; mode++) {
+        struct call load = {.load = monitor->load, .sheet = &sheet};
+        struct call run = {.run = monitor->run, .sheet = &sheet, .store = &store, .mode = mode};
+        struct stacks stacks = {stack_of(&load), stack_of(&run)};
+        keep_most(&most, stacks);
+        if ((numbers >> number_of(load.word) & 1) == 0 || (numbers >> number_of(run.word) & 1) == 0)
+            fail("a call ends with a number that it should not");
+    }
+    return most;
+}
+
+/* Runs that were at the deepest place: done, or stopped there by the fuel, a divisor or the context. */
+enum { REACHED = 1 << DONE | 1 << FUEL_USED_UP | 1 << DIVISOR_ZERO | 1 << CONTEXT_ABOVE };
+
+/* Shapes. A shape puts one more node, the i-th of its nest, around what is there. */
+
+struct shape {
+    const char *name;
+    unsigned (*around)(struct draft *, unsigned inner, unsigned i);
+};
+
+/* Fields 0 to 3 are true and at levels of which none is at or below another. */
+enum { SIDE_BY_SIDE = 4, FALSE_FIELD = 4, HIGH_FIELD = 5, LOW_FIELD = 6 };
+
+static void begin_nest(struct draft *d)
+{
+    begin_cube(d);
+    for (unsigned i = 0; i < SIDE_BY_SIDE; i++)
+        new_field(d, 1u << i, 1);
+    new_field(d, 2, 0);
+    new_field(d, 15, 0);
+    new_field(d, 4, 0);
+}
+
+static unsigned leaf(struct draft *d, unsigned i)
+{
+    return i % 5 == 4 ? constant(d, 1) : field(d, i % 5);
+}
+
+static unsigned operator_left(struct draft *d, unsigned inner, unsigned i)
+{
+    return operation(d, (enum operator)(i % OPERATORS), inner, leaf(d, i));
+}
+
+static unsigned operator_right(struct draft *d, unsigned inner, unsigned i)
+{
+    return operation(d, (enum operator)(i % OPERATORS), leaf(d, i), inner);
+}
+
+static unsigned around_not(struct draft *d, unsigned inner, unsigned i)
+{
+    (void)i;
+    return not(d, inner);
+}
+
+static unsigned around_seal(struct draft *d, unsigned inner, unsigned i)
+{
+    (void)i;
+    return seal(d, inner);
+}
+
+static unsigned sequence_left(struct draft *d, unsigned inner, unsigned i)
+{
+    (void)i;
+    return sequence(d, inner, skip(d));
+}
+
+static unsigned sequence_right(struct draft *d, unsigned inner, unsigned i)
+{
+    (void)i;
+    return sequence(d, skip(d), inner);
+}
+
+static unsigned then_part(struct draft *d, unsigned inner, unsigned i)
+{
+    return if_else(d, field(d, i % SIDE_BY_SIDE), inner, skip(d));
+}
+
+static unsigned else_part(struct draft *d, unsigned inner, unsigned i)
+{
+    (void)i;
+    return if_else(d, field(d, FALSE_FIELD), skip(d), inner);
+}
+
+static unsigned around_while(struct draft *d, unsigned inner, unsigned i)
+{
+    return while_do(d, field(d, i % SIDE_BY_SIDE), inner);
+}
+
+static unsigned any_expression(struct draft *d, unsigned inner, unsigned i);
+static unsigned any_command(struct draft *d, unsigned inner, unsigned i);
+
+enum { EXPRESSIONS = 5, COMMANDS = 6 };
+
+static const struct shape expressions[EXPRESSIONS] = {
+    {"operators, left", operator_left}, {"operators, right", operator_right}, {"not", around_not},
+    {"seal", around_seal},              {"expressions in turn", any_expression},
+};
+
+static const struct shape commands[COMMANDS] = {
+    {"sequences, left", sequence_left}, {"sequences, right", sequence_right}, {"ifs, then part", then_part},
+    {"ifs, else part", else_part},      {"whiles", around_while},             {"commands in turn", any_command},
+};
+
+/* The shapes in turn, all but the last, which is this one. */
+static unsigned any_expression(struct draft *d, unsigned inner, unsigned i)
+{
+    return expressions[i % (EXPRESSIONS - 1)].around(d, inner, i);
+}
+
+static unsigned any_command(struct draft *d, unsigned inner, unsigned i)
+{
+    return commands[i % (COMMANDS - 1)].around(d, inner, i);
+}
+
+/* So many nodes around what is there; `first` shifts what comes in turn. */
+static unsigned nest(struct draft *d, const struct shape *shape, unsigned inner, unsigned nodes, unsigned first)
+{
+    for (unsigned i = 0; i < nodes; i++)
+        inner = shape->around(d, inner, first + i);
+    return inner;
+}
+
+/* The deepest command, with the expression in it: an assignment in each way, an if, a while. */
+enum { DEEPEST = 4 };
+
+static unsigned deepest_command(struct draft *d, unsigned which, unsigned expression)
+{
+    switch (which) {
+    case 0:
+        return assignment(d, HIGH_FIELD, expression);
+    case 1:
+        return assignment(d, LOW_FIELD, expression);
+    case 2:
+        return if_else(d, expression, skip(d), skip(d));
+    default:
+        return while_do(d, expression, skip(d));
+    }
+}
+
+/* Commands to the full depth, with a skip below. */
+static struct stacks measure_commands(const struct monitor *monitor, const struct shape *shape)
+{
+    struct draft d;
+    begin_nest(&d);
+    nest(&d, shape, skip(&d), DEPTH - 1, 0);
+    return measure(monitor, &d, REACHED);
+}
+
+/* An expression of this depth below a nest of commands, together to the full depth. */
+static struct stacks measure_mixture(const struct monitor *monitor, const struct shape *above,
+                                     const struct shape *below, unsigned depth)
+{
+    struct stacks most = {0, 0};
+    for (unsigned which = 0; which < DEEPEST; which++) {
+        struct draft d;
+        begin_nest(&d);
+        unsigned expression = nest(&d, below, leaf(&d, depth), depth - 1, depth);
+        nest(&d, above, deepest_command(&d, which, expression), DEPTH - 1 - depth, depth);
+        keep_most(&most, measure(monitor, &d, REACHED));
+    }
+    return most;
+}
+
+/* The same for every depth. */
+static struct stacks measure_mixtures(const struct monitor *monitor, const struct shape *above,
+                                      const struct shape *below)
+{
+    struct stacks most = {0, 0};
+    for (unsigned depth = 1; depth < DEPTH; depth++)
+        keep_most(&most, measure_mixture(monitor, above, below, depth));
+    return most;
+}
+
+/* A sheet that is refused for its depth, as deep as nodes allow. */
+static struct stacks measure_too_deep(const struct monitor *monitor, const struct shape *shape)
+{
+    struct draft d;
+    begin_nest(&d);
+    nest(&d, shape, skip(&d), (NODES - 1) / 3, 0);
+    return measure(monitor, &d, 1 << TOO_DEEP);
+}
+
+static struct stacks measure_largest(const struct monitor *monitor)
+{
+    static struct draft d;
+    draft_largest(&d);
+    return measure(monitor, &d, 1 << DONE | 1 << FUEL_USED_UP | 1 << CONTEXT_ABOVE | 1 << PARTIAL_TEST);
+}
+
+/* The tables. */
+
+static void print_line(const char *name, struct stacks stacks, struct stacks *most)
+{
+    keep_most(most, stacks);
+    printf("%-22s %8u %8u\n", name, stacks.load, stacks.run);
+}
+
+static void print_shapes(struct stacks *most)
+{
+    printf("%-22s %8s %8s\n", "stack, bytes", "load", "run");
+    for (int i = 0; i < COMMANDS; i++)
+        print_line(commands[i].name, measure_commands(&archive, &commands[i]), most);
+    for (int i = 0; i < EXPRESSIONS; i++)
+        print_line(expressions[i].name, measure_mixture(&archive, &commands[0], &expressions[i], DEPTH - 1), most);
+    print_line("largest sheet", measure_largest(&archive), most);
+    print_line("refused: too deep", measure_too_deep(&archive, &commands[COMMANDS - 1]), most);
+}
+
+static void print_mixtures(struct stacks *most)
+{
+    printf("\nrun, an expression below commands, worst of all depths that make 64\n%-22s", "");
+    for (int i = 0; i < EXPRESSIONS; i++)
+        printf(" %20s", expressions[i].name);
+    for (int i = 0; i < COMMANDS; i++) {
+        printf("\n%-22s", commands[i].name);
+        for (int j = 0; j < EXPRESSIONS; j++) {
+            struct stacks stacks = measure_mixtures(&archive, &commands[i], &expressions[j]);
+            keep_most(most, stacks);
+            printf(" %20u", stacks.run);
+        }
+    }
+}
+
+static struct stacks most_by_hand(void)
+{
+    struct stacks most = {0, 0};
+    for (int i = 0; i < COMMANDS; i++)
+        for (int j = 0; j < EXPRESSIONS; j++)
+            keep_most(&most, measure_mixtures(&by_hand, &commands[i], &expressions[j]));
+    return most;
+}
+
+int main(void)
+{
+    struct stacks most = {0, 0};
+    make_stack();
+    print_shapes(&most);
+    print_mixtures(&most);
+    struct stacks by_c = most_by_hand();
+    printf("\n\n%-22s %8u %8u of %u\n", "archive at most", most.load, most.run, STACK_LIMIT);
+    printf("%-22s %8u %8u\n", "C at most", by_c.load, by_c.run);
+    return most.load <= STACK_LIMIT && most.run <= STACK_LIMIT ? EXIT_SUCCESS : EXIT_FAILURE;
+}

@@ -1,0 +1,296 @@
+/* Document 01's trials, run on the monitor by hand: a wrong C would be a wrong measure. */
+#include "calls.h"
+#include "monitor.h"
+#include "sheets.h"
+
+#include <stdbool.h>
+#include <stdio.h>
+#include <stdlib.h>
+#include <string.h>
+
+static const uint16_t one_level[] = {1}, two_levels[] = {3, 2}, diamond[] = {15, 10, 12, 8};
+
+static int wrong;
+
+static void expect(bool holds, const char *trial)
+{
+    if (!holds)
+        fprintf(stderr, "wrong: %s\n", trial);
+    wrong += !holds;
+}
+
+/* One run of a draft, and the final store. */
+struct outcome {
+    uint64_t word;
+    uint8_t store[STORE_MOST];
+};
+
+static struct outcome run(const struct draft *draft, uint32_t mode, uint32_t fuel)
+{
+    static struct bytes sheet, store;
+    struct outcome outcome = {0, {0}};
+    sheet_of(draft, &sheet);
+    store_of(draft, &store);
+    outcome.word = c_run(sheet.at, sheet.length, store.at, store.length, mode, fuel, outcome.store, STORE_MOST);
+    return outcome;
+}
+
+static uint64_t load(const struct draft *draft)
+{
+    static struct bytes sheet;
+    sheet_of(draft, &sheet);
+    return c_load(sheet.at, sheet.length);
+}
+
+static bool is(struct outcome outcome, unsigned number, unsigned place, uint32_t units)
+{
+    return outcome.word == (number | (uint64_t)place << 8 | (uint64_t)units << 32);
+}
+
+static bool holds(struct outcome outcome, unsigned field, unsigned mark, int32_t value)
+{
+    const uint8_t *entry = outcome.store + COUNT_SIZE + ENTRY_SIZE * field;
+    uint32_t stored = entry[1] | (uint32_t)entry[2] << 8 | (uint32_t)entry[3] << 16 | (uint32_t)entry[4] << 24;
+    return entry[0] == mark && stored == (uint32_t)value;
+}
+
+/* Values: f := x operator y. */
+
+static struct outcome work_out(int32_t x, enum operator operator, int32_t y)
+{
+    struct draft d;
+    begin(&d, 1, one_level);
+    new_field(&d, 0, 0);
+    unsigned left = constant(&d, x), right = constant(&d, y);
+    assignment(&d, 0, operation(&d, operator, left, right));
+    return run(&d, STRICT, 1);
+}
+
+static bool gives(int32_t x, enum operator operator, int32_t y, int32_t value)
+{
+    struct outcome outcome = work_out(x, operator, y);
+    return is(outcome, DONE, 0, 1) && holds(outcome, 0, 0, value);
+}
+
+static void try_arithmetic(void)
+{
+    expect(is(work_out(INT32_MAX, ADD, 1), OUT_OF_RANGE, 2, 1), "greatest + 1: 13");
+    expect(is(work_out(INT32_MIN, SUBTRACT, 1), OUT_OF_RANGE, 2, 1), "least - 1: 13");
+    expect(is(work_out(65536, MULTIPLY, 32768), OUT_OF_RANGE, 2, 1), "65536 * 32768: 13");
+    expect(gives(65536, MULTIPLY, -32768, INT32_MIN), "65536 * -32768");
+    expect(is(work_out(INT32_MIN, DIVIDE, -1), OUT_OF_RANGE, 2, 1), "least / -1: 13");
+    expect(gives(INT32_MIN, REMAINDER, -1, 0), "least % -1 = 0");
+    expect(gives(-7, DIVIDE, 2, -3) && gives(-7, REMAINDER, 2, -1), "-7 / 2 = -3, -7 % 2 = -1");
+    expect(gives(7, DIVIDE, -2, -3) && gives(7, REMAINDER, -2, 1), "7 / -2 = -3, 7 % -2 = 1");
+    expect(gives(7, DIVIDE, -1, -7) && gives(-7, DIVIDE, -1, 7), "7 / -1, -7 / -1");
+    expect(is(work_out(5, DIVIDE, 0), DIVISOR_ZERO, 2, 1), "5 / 0: 14");
+    expect(is(work_out(5, REMAINDER, 0), DIVISOR_ZERO, 2, 1), "5 % 0: 14");
+}
+
+static void try_tests(void)
+{
+    expect(gives(4, EQUAL, 4, 1) && gives(4, EQUAL, 5, 0), "equal");
+    expect(gives(-1, LESS, 0, 1) && gives(0, LESS, 0, 0) && gives(1, LESS, 0, 0), "less");
+    expect(gives(-1, AT_MOST, 0, 1) && gives(0, AT_MOST, 0, 1) && gives(1, AT_MOST, 0, 0), "at most");
+    expect(gives(2, AND, -1, 1) && gives(2, AND, 0, 0) && gives(0, AND, 2, 0), "and");
+    expect(gives(2, OR, 0, 1) && gives(0, OR, -1, 1) && gives(0, OR, 0, 0), "or");
+}
+
+/* Marks: if c then a := v else skip, in the diamond; c gives the context. The if is node 4. */
+static struct outcome assign(unsigned context, unsigned old, unsigned mark, enum mode mode)
+{
+    struct draft d;
+    begin(&d, 4, diamond);
+    unsigned a = new_field(&d, old, 0), v = new_field(&d, mark, 7), c = new_field(&d, context, 1);
+    if_else(&d, field(&d, c), assignment(&d, a, field(&d, v)), skip(&d));
+    return run(&d, mode, 2);
+}
+
+/* a := x + y in the diamond. */
+static struct outcome add(unsigned x_mark, unsigned y_mark)
+{
+    struct draft d;
+    begin(&d, 4, diamond);
+    unsigned a = new_field(&d, 0, 0), x = new_field(&d, x_mark, 3), y = new_field(&d, y_mark, 4);
+    assignment(&d, a, operation(&d, ADD, field(&d, x), field(&d, y)));
+    return run(&d, PERMISSIVE, 1);
+}
+
+static void try_marks(void)
+{
+    expect(holds(add(1, PARTIAL + 2), 0, PARTIAL + 3, 7), "whole 1 joined with partial 2 is partial 3");
+    expect(holds(add(1, 3), 0, 3, 7) && holds(add(2, 0), 0, 2, 7), "joins of comparable levels");
+    expect(holds(assign(1, 2, 0, PERMISSIVE), 0, PARTIAL + 0, 7), "context 1 into whole 2: partial 0");
+    expect(holds(assign(1, PARTIAL + 1, 2, PERMISSIVE), 0, 3, 7), "context 1 into partial 1, value whole 2: whole 3");
+    expect(holds(assign(3, PARTIAL + 1, 0, PERMISSIVE), 0, PARTIAL + 1, 7), "context 3 into partial 1: partial 1");
+    expect(holds(assign(1, 3, PARTIAL + 2, PERMISSIVE), 0, PARTIAL + 3, 7), "a partial value leaves a partial field");
+    expect(is(assign(PARTIAL + 1, 1, 0, PERMISSIVE), PARTIAL_TEST, 4, 1), "a partial test: 16");
+    expect(number_of(assign(1, 2, 0, STRICT).word) == CONTEXT_ABOVE, "context 1 into whole 2, strict: 15");
+    expect(is(assign(1, 1, PARTIAL + 1, STRICT), MARK_WRONG, 0, 0), "a partial mark in a strict run: 9");
+    expect(is(assign(4, 1, 1, PERMISSIVE), MARK_WRONG, 0, 0), "an unknown level: 9");
+    expect(is(assign(MARKS, 1, 1, PERMISSIVE), MARK_WRONG, 0, 0), "a mark above 31: 9");
+}
+
+/* The flag sheet: flag := 0; q := 0; if cost < 500 then flag := 1 else skip; if flag = 0 then q := 1 else skip. */
+
+enum { COST, FLAG, Q };
+
+struct flag_sheet {
+    struct draft draft;
+    unsigned set_flag, last_test, set_q;
+};
+
+static void draft_flag(struct flag_sheet *sheet, int32_t cost, bool sealed)
+{
+    struct draft *d = &sheet->draft;
+    begin(d, 2, two_levels);
+    new_field(d, 1, cost);
+    new_field(d, 0, 0);
+    new_field(d, 0, 0);
+    unsigned first = sequence(d, assignment(d, FLAG, constant(d, 0)), assignment(d, Q, constant(d, 0)));
+    sheet->set_flag = assignment(d, FLAG, constant(d, 1));
+    unsigned cheap = operation(d, LESS, field(d, COST), constant(d, 500));
+    unsigned second = if_else(d, cheap, sheet->set_flag, skip(d));
+    unsigned read = sealed ? seal(d, field(d, FLAG)) : field(d, FLAG);
+    sheet->set_q = assignment(d, Q, constant(d, 1));
+    sheet->last_test = if_else(d, operation(d, EQUAL, read, constant(d, 0)), sheet->set_q, skip(d));
+    sequence(d, first, sequence(d, second, sheet->last_test));
+}
+
+static void try_flag(void)
+{
+    struct flag_sheet s;
+    draft_flag(&s, 600, false);
+    for (uint32_t mode = STRICT; mode <= PERMISSIVE; mode++) {
+        struct outcome done = run(&s.draft, mode, 6);
+        expect(is(done, DONE, 0, 6) && holds(done, Q, 0, 1), "cost 600: q = 1 after 6 units");
+        expect(is(run(&s.draft, mode, 5), FUEL_USED_UP, s.set_q, 5), "cost 600, fuel 5: 12");
+        expect(number_of(run(&s.draft, mode, 0).word) == FUEL_USED_UP, "fuel 0: 12");
+        expect(number_of(run(&s.draft, mode, FUEL_LIMIT).word) == DONE, "fuel 1,000,000 is taken");
+        expect(is(run(&s.draft, mode, FUEL_LIMIT + 1), MODE_OR_FUEL, 0, 0), "fuel 1,000,001: 10");
+    }
+    draft_flag(&s, 400, false);
+    expect(is(run(&s.draft, PERMISSIVE, 9), PARTIAL_TEST, s.last_test, 5), "cost 400, permissive: 16 after 5");
+    expect(is(run(&s.draft, STRICT, 9), CONTEXT_ABOVE, s.set_flag, 4), "cost 400, strict: 15 after 4");
+    expect(is(run(&s.draft, 2, 9), MODE_OR_FUEL, 0, 0), "mode 2: 10");
+}
+
+static void try_sealed_flag(void)
+{
+    struct flag_sheet s;
+    draft_flag(&s, 400, true);
+    struct outcome cheap = run(&s.draft, PERMISSIVE, 9);
+    expect(is(cheap, DONE, 0, 6) && holds(cheap, FLAG, PARTIAL, 1) && holds(cheap, Q, 0, 0), "sealed, cost 400");
+    draft_flag(&s, 600, true);
+    struct outcome dear = run(&s.draft, PERMISSIVE, 9);
+    expect(is(dear, DONE, 0, 6) && holds(dear, Q, PARTIAL, 1), "sealed, cost 600: q partial");
+    expect(is(run(&s.draft, STRICT, 9), CONTEXT_ABOVE, s.set_q, 6), "sealed, cost 600, strict: 15 after 6");
+}
+
+/* while x do (x := 0; y := 1); z := 1, with x at level 1: the context is kept in the loop and returns after it. */
+static void try_context(void)
+{
+    struct draft d;
+    begin(&d, 2, two_levels);
+    unsigned x = new_field(&d, 1, 1), y = new_field(&d, 1, 0), z = new_field(&d, 0, 0);
+    unsigned body = sequence(&d, assignment(&d, x, constant(&d, 0)), assignment(&d, y, constant(&d, 1)));
+    unsigned loop = while_do(&d, field(&d, x), body);
+    sequence(&d, loop, assignment(&d, z, constant(&d, 1)));
+    struct outcome done = run(&d, STRICT, 9);
+    expect(is(done, DONE, 0, 5), "a while of one round and an assignment: 5 units");
+    expect(holds(done, x, 1, 0) && holds(done, y, 1, 1) && holds(done, z, 0, 1), "marks in and after a while");
+    expect(is(run(&d, STRICT, 3), FUEL_USED_UP, loop, 3), "the while's second test has no unit left: 12");
+}
+
+/* Sheets. */
+
+static uint64_t load_rows(unsigned levels, const uint16_t *rows)
+{
+    struct draft d;
+    begin(&d, levels, rows);
+    new_field(&d, 0, 0);
+    skip(&d);
+    return load(&d);
+}
+
+static void try_levels(void)
+{
+    expect(load_rows(3, (const uint16_t[]){7, 2, 4}) == LEVELS_WRONG, "rows 7, 2, 4: 3");
+    expect(load_rows(1, one_level) == DONE && load_rows(1, (const uint16_t[]){0}) == LEVELS_WRONG, "one level");
+    expect(load_rows(2, two_levels) == DONE && load_rows(4, diamond) == DONE, "two levels, the diamond");
+    expect(load_rows(2, (const uint16_t[]){3, 3}) == LEVELS_WRONG, "each at or below the other: 3");
+    expect(load_rows(2, (const uint16_t[]){7, 2}) == LEVELS_WRONG, "a bit at the count: 3");
+    expect(load_rows(3, (const uint16_t[]){5, 6, 4}) == LEVELS_WRONG, "no lowest level: 3");
+    expect(load_rows(5, (const uint16_t[]){31, 22, 28, 24, 16}) == LEVELS_WRONG, "not transitive: 3");
+}
+
+/* f := not not .. f, so many nodes deep. */
+static uint64_t load_nots(unsigned depth)
+{
+    struct draft d;
+    begin(&d, 1, one_level);
+    new_field(&d, 0, 0);
+    unsigned inner = field(&d, 0);
+    for (unsigned i = 2; i < depth; i++)
+        inner = not(&d, inner);
+    assignment(&d, 0, inner);
+    return load(&d);
+}
+
+/* The largest sheet with one more in the count at this place. */
+static uint64_t load_one_more(size_t at)
+{
+    static struct draft draft;
+    static struct bytes sheet;
+    draft_largest(&draft);
+    sheet_of(&draft, &sheet);
+    sheet.at[at]++;
+    return c_load(sheet.at, sheet.length);
+}
+
+static void try_limits(void)
+{
+    static struct draft largest;
+    draft_largest(&largest);
+    expect(load(&largest) == DONE, "16, 64, 256 and 1,024 entries are taken");
+    expect(load_one_more(0) == COUNT_OUTSIDE, "17 levels: 2");
+    expect(load_one_more(34) == COUNT_OUTSIDE, "65 fields: 2");
+    expect(load_one_more(548) == COUNT_OUTSIDE, "257 constants: 2");
+    expect(load_one_more(1574) == COUNT_OUTSIDE, "1,025 nodes: 2");
+    expect(load_nots(DEPTH) == DONE && load_nots(DEPTH + 1) == TOO_DEEP && load_nots(NODES) == TOO_DEEP, "depth");
+}
+
+/* The runner's example: q := q + 1 from 41 at level 1. The output has a byte to spare. */
+static void try_example(void)
+{
+    static const uint8_t sheet[] = {
+        2, 0, 3, 0, 2, 0, 1, 0, 0x71, 0, 0, 0, 0, 0, 0, 0, 1, 0, 1, 0, 0, 0, 4, 0, 0, 0, 0, 0,
+        0, 0, 0, 0, 1, 0, 0, 0, 0, 0, 0, 0, 2, 0, 1, 0, 0, 0, 0, 0, 6, 0, 0, 0, 2, 0, 0, 0,
+    };
+    static const uint8_t store[] = {1, 0, 1, 41, 0, 0, 0}, two_fields[] = {2, 0, 1, 41, 0, 0, 0};
+    uint8_t out[8] = {9, 9, 9, 9, 9, 9, 9, 9};
+    expect(c_run(sheet, sizeof sheet - 1, store, 7, PERMISSIVE, 9, out, 8) == SHEET_LENGTH, "a cut sheet: 1");
+    expect(c_run(sheet, sizeof sheet, store, 6, PERMISSIVE, 9, out, 8) == STORE_SIZE, "a cut store: 8");
+    expect(c_run(sheet, sizeof sheet, two_fields, 7, PERMISSIVE, 9, out, 8) == STORE_SIZE, "another count: 8");
+    expect(c_run(sheet, sizeof sheet, store, 7, PERMISSIVE, 9, out, 6) == OUTPUT_SHORT, "a short output: 11");
+    expect(number_of(c_run(sheet, sizeof sheet, store, 7, PERMISSIVE, 0, out, 8)) == FUEL_USED_UP, "fuel 0: 12");
+    expect(memcmp(out, (const uint8_t[]){9, 9, 9, 9, 9, 9, 9, 9}, 8) == 0, "a refusal writes nothing");
+    expect(c_run(sheet, sizeof sheet, store, 7, PERMISSIVE, 9, out, 8) == (uint64_t)1 << 32, "the example: 1 unit");
+    expect(memcmp(out, (const uint8_t[]){1, 0, 1, 42, 0, 0, 0, 9}, 8) == 0, "the example: q = 42, the last byte stays");
+}
+
+int main(void)
+{
+    try_arithmetic();
+    try_tests();
+    try_marks();
+    try_flag();
+    try_sealed_flag();
+    try_context();
+    try_levels();
+    try_limits();
+    try_example();
+    if (wrong == 0)
+        printf("monitor.c does what document 01's trials say\n");
+    return wrong == 0 ? EXIT_SUCCESS : EXIT_FAILURE;
+}

@@ -1,0 +1,239 @@
+-- Run, check by check: what is told, what a run is given once all checks have passed, and what its word says.
+use Prim.Native.Nat.{ℕ, zero, suc, _+_, _-_, _*_, _/_, _%_, _≤_, _<_}
+use native.Mathlib.Omega.{arith}
+use mathlib.Core.Path.{_≡_, refl, sym, ap, _∙_}
+use mathlib.Core.Bool.{Bool, true, false, _&&_, _||_, true≢false}
+use mathlib.Core.List.{List, [], _∷_}
+use borrow.Author.Tests.{ltb-false, leb-true, eqb-true, eqb-false, le-ltb, le-leb}
+use lib.Dec.{eqb, ltb, leb}
+use lib.ListN.{length, getD, drop}
+use Rattle.basis.proofs.Tests.{both, and-of, is-false, split, all-at}
+use Rattle.levels.specs.Levels.{count, lowestOf}
+use Rattle.levels.specs.Lattice.{lattice}
+use Rattle.levels.proofs.Bounds.{lowest-is}
+use Rattle.sheet.specs.Verdict.{numberOf, passesOf}
+use Rattle.sheet.specs.Sections.{fieldsAt, nodesAt, levelsOf, constantsOf, nodesOf}
+use Rattle.sheet.specs.Load.{fieldCount, lastOf, programOf, loadOf, Loaded}
+use Rattle.sheet.proofs.Parts.{entries-length}
+use Rattle.flow.specs.Rules as rules
+use Rattle.flow.specs.Rules.{outOfRange, divisorZero, notBelow, partialTest, End, done, stopped, exec}
+use Rattle.flow.specs.Marks.{Mark, Mode, strict, permissive, modeOf, marking}
+use Rattle.flow.specs.Stores.{storeLength, storeOf, markAt, markKnown, markTaken, marksRight, storeFits}
+use Rattle.flow.specs.Words.{whyOf}
+use Rattle.flow.specs.Tasks.{First, stopOf, endOf, Told, CmdIn, Ran}
+use Rattle.flow.proofs.Entries.{same-marks}
+use Rattle.flow.proofs.Ends.{end-done, end-stop}
+use Rattle.flow.proofs.Units.{units-done, units-stopped}
+use Rattle.beltuqash.specs.Answer.{answer, wordOf}
+use Rattle.beltuqash.specs.Calls.{Outcome, ended, run, runFrom}
+use Rattle.beltuqash.specs.Runs.{Given}
+
+-- a word and an output have an outcome
+abbrev Has : ℕ → List ℕ → Outcome → Type 0
+Has r out x = (r ≡ wordOf (x .answer)) × (out ≡ x .out)
+
+pub has-same : {r : ℕ} {out : List ℕ} {x y : Outcome} → x ≡ y → Has r out y → Has r out x
+has-same e h = rw e h
+
+-- ── the checks ──────────────────────────────────────────────────────────────────────────────
+
+neither : (a b : Bool) → (a || b) ≡ false → (a ≡ false) × (b ≡ false)
+neither true b e = absurd (true≢false e)
+neither false b e = (refl, e)
+
+module _ (mode fuel : ℕ) where
+  abbrev asked : Bool
+  asked = leb mode 1 && leb fuel 1000000
+
+  pub wrongly-asked : (ltb 1 mode || ltb 1000000 fuel) ≡ true → asked ≡ false
+  wrongly-asked h =
+      is-false asked (λ t.
+      let (a, b) = both _ _ t in
+      let low = le-ltb 1 mode (leb-true _ _ a) in
+      let few = le-ltb 1000000 fuel (leb-true _ _ b) in
+      true≢false (sym h ∙ rw (low, few)))
+
+  pub known-mode : (ltb 1 mode || ltb 1000000 fuel) ≡ false → mode ≤ 1
+  known-mode h = ltb-false 1 mode (neither _ _ h .0)
+
+  pub rightly-asked : (ltb 1 mode || ltb 1000000 fuel) ≡ false → asked ≡ true
+  rightly-asked h = and-of (le-leb mode 1 (known-mode h)) (le-leb fuel 1000000 (ltb-false 1000000 fuel (neither (ltb 1 mode) _ h .1)))
+
+  module _ (sheet store out : List ℕ) where
+    abbrev refused : ℕ → Outcome
+    refused number = record { answer = answer number 0 0; out = out }
+
+    abbrev whole : Outcome
+    whole = run sheet store mode fuel out
+
+    pub told-10 : asked ≡ false → whole ≡ refused 10
+    unfolding run
+    told-10 e = rw e
+
+    module _ (a : asked ≡ true) where
+      pub told-load : passesOf (loadOf sheet) ≡ false → whole ≡ refused (numberOf (loadOf sheet))
+      unfolding run
+      told-load e = rw (a, e)
+
+      module _ (p : passesOf (loadOf sheet) ≡ true) where
+        pub told-8 : storeFits (fieldCount sheet) store ≡ false → whole ≡ refused 8
+        unfolding run
+        told-8 e = rw (a, p, e)
+
+        module _ (f : storeFits (fieldCount sheet) store ≡ true) where
+          pub told-9 : marksRight (modeOf mode) (count (levelsOf sheet)) (fieldCount sheet) store ≡ false → whole ≡ refused 9
+          unfolding run
+          told-9 e = rw (a, p, f, e)
+
+          module _ (m : marksRight (modeOf mode) (count (levelsOf sheet)) (fieldCount sheet) store ≡ true) where
+            pub told-11 : leb (storeLength (fieldCount sheet)) (length out) ≡ false → whole ≡ refused 11
+            unfolding run
+            told-11 e = rw (a, p, f, m, e)
+
+            pub goes-on : leb (storeLength (fieldCount sheet)) (length out) ≡ true → whole ≡ runFrom sheet store mode fuel out
+            unfolding run
+            goes-on e = rw (a, p, f, m, e)
+
+-- ── what a sheet and a store have ───────────────────────────────────────────────────────────
+
+module _ (sheet : List ℕ) (loaded : Loaded sheet) where
+  pub few-fields : fieldCount sheet ≤ 64
+  few-fields =
+      let part = loaded .sections .fields in
+      let long = entries-length 8 (drop (fieldsAt sheet) sheet) (part .whole) in
+      let few = part .few in
+      omega arith
+
+  -- 1 to 1,024 nodes
+  pub nodes-long : (8 ≤ length (nodesOf sheet)) × (length (nodesOf sheet) ≤ 8192)
+  nodes-long =
+      let part = loaded .sections .nodes in
+      let long = entries-length 8 (drop (nodesAt sheet) sheet) (part .whole) in
+      let some = part .some in
+      let few = part .few in
+      (omega arith, omega arith)
+
+pub fits-long : (fields : ℕ) (store : List ℕ) → storeFits fields store ≡ true → length store ≡ storeLength fields
+unfolding storeFits
+fits-long fields store e = eqb-true _ _ (both _ _ e .0)
+
+-- a mark that a run takes is known
+taken-known : (mode : Mode) (levels byte : ℕ) → markTaken mode levels byte ≡ true → markKnown levels byte ≡ true
+taken-known strict levels byte e = both _ _ e .0
+taken-known permissive levels byte e = e
+
+marks-known : (mode : Mode) (levels fields : ℕ) (store : List ℕ) → marksRight mode levels fields store ≡ true
+    → (i : ℕ) → i < fields → markKnown levels (markAt store i) ≡ true
+unfolding marksRight
+marks-known mode levels fields store e i h = taken-known mode levels _ (all-at fields (λ i. markTaken mode levels (markAt store i)) e i h)
+
+-- what is said of three lists is said of equal ones
+pub moved : (P : List ℕ → List ℕ → List ℕ → Type 0) {a b c x y z : List ℕ} → a ≡ x → b ≡ y → c ≡ z → P a b c → P x y z
+moved P e d f h = rw (e, d, f) at h
+
+-- ── a word that stops ───────────────────────────────────────────────────────────────────────
+
+why-number : (k : ℕ) → k ≤ 3 → rules.numberOf (getD (outOfRange ∷ divisorZero ∷ notBelow ∷ []) k partialTest) ≡ 13 + k
+why-number zero h = refl
+why-number (suc zero) h = refl
+why-number (suc (suc zero)) h = refl
+why-number (suc (suc (suc zero))) h = refl
+why-number (suc (suc (suc (suc k)))) h = absurd (omega arith)
+
+number-back : (n : ℕ) → 13 ≤ n → n ≤ 16 → rules.numberOf (whyOf n) ≡ n
+unfolding whyOf
+number-back n least most = why-number (n - 13) (omega arith) ∙ omega arith
+
+other-stop : (word : ℕ) → eqb (word / 281474976710656) 12 ≡ false
+    → stopOf word ≡ stopped (whyOf (word / 281474976710656)) (word / 4294967296 % 65536) (word % 4294967296)
+unfolding stopOf
+other-stop word e = rw e
+
+module _ (word fuel : ℕ) (told : Told word) where
+  module _ (fields : ℕ) (out : List ℕ) where
+    pub stop-answer : ended fields fuel out (stopOf word) .answer ≡ answer (word / 281474976710656) (word / 4294967296 % 65536) (fuel - word % 4294967296)
+    unfolding ended stopOf
+    stop-answer =
+        split (eqb (word / 281474976710656) 12)
+        (λ e.
+        let twelve = eqb-true _ _ e in
+        let all : fuel - word % 4294967296 ≡ fuel = omega (arith, told .nothing twelve) in
+        rw (e, twelve, all))
+        (λ e.
+        let other : word / 281474976710656 ≡ 12 → ⊥ = eqb-false _ _ e in
+        let least = told .least in
+        let thirteen : 13 ≤ word / 281474976710656 = omega arith in
+        rw (e, number-back _ thirteen (told .most)))
+
+    pub stop-out : ended fields fuel out (stopOf word) .out ≡ out
+    unfolding ended stopOf
+    stop-out = split (eqb (word / 281474976710656) 12) (λ e. rw e) (λ e. rw e)
+
+-- ── a run from a store that fits ────────────────────────────────────────────────────────────
+
+bot-is : (rows : List ℕ) → lowestOf rows ≡ lattice rows .bot
+unfolding lattice
+bot-is rows = refl
+
+-- the first task may be done
+pub task-in : {sheet store : List ℕ} {mode : ℕ} {out work : List ℕ} {task : ℕ} → Given sheet store mode out → storeOf work ≡ storeOf store → length work ≡ 322
+    → First (levelsOf sheet) mode (lastOf (nodesOf sheet)) task → CmdIn (levelsOf sheet) (constantsOf sheet) (nodesOf sheet) work task
+task-in {sheet} {store} {mode} {out} {work} given same long first =
+    let loaded = given .loaded in
+    let rows = levelsOf sheet in
+    let nodes = nodesOf sheet in
+    let (some, few) = nodes-long sheet loaded in
+    let inside : lastOf nodes * 8 + 8 ≤ length nodes = omega arith in
+    record {
+      ready = record {
+        order = loaded .levels;
+        fields = fieldCount sheet;
+        few-fields = few-fields sheet loaded;
+        formed = loaded .nodes;
+        few-nodes = few;
+        long = long;
+        marks = λ i h. rw (same-marks work store same i) (marks-known (modeOf mode) (count rows) (fieldCount sheet) store (given .marks) i h);
+        bounded = first .bounds;
+      };
+      inside = rw (first .node) inside;
+      sort = rw (first .node) (loaded .command);
+      context = rw (first .context) (lowest-is rows (loaded .levels) .level);
+    }
+
+-- the first task was done, on a copy of the store
+pub record Done (sheet store : List ℕ) (mode : ℕ) (work : List ℕ) (task fuel : ℕ) (after : List ℕ) (word : ℕ) : Type 0 where
+  pub same : storeOf work ≡ storeOf store
+  pub first : First (levelsOf sheet) mode (lastOf (nodesOf sheet)) task
+  pub ran : Ran (levelsOf sheet) (constantsOf sheet) (nodesOf sheet) work task fuel after word
+
+module _ {sheet store : List ℕ} {mode : ℕ} {work : List ℕ} {task fuel : ℕ} {after : List ℕ} {word : ℕ} (d : Done sheet store mode work task fuel after word) where
+  abbrev executed : End Mark
+  executed = exec (marking (lattice (levelsOf sheet)) (modeOf mode)) (programOf sheet) (lattice (levelsOf sheet) .bot) (storeOf store) fuel
+
+  runs-as : endOf word (storeOf after) ≡ executed
+  runs-as = rw (d .first .mode-is, d .first .node, d .first .context, bot-is (levelsOf sheet), d .same) at (d .ran .is)
+
+  module _ (low : word < 281474976710656) where
+    ends-done : executed ≡ done (storeOf after) (word % 4294967296)
+    ends-done = sym runs-as ∙ end-done word (storeOf after) low
+
+    pub left-done : word % 4294967296 ≤ fuel
+    left-done = units-done _ _ _ _ fuel _ _ ends-done
+
+    pub runs-done : (out : List ℕ) → runFrom sheet store mode fuel out ≡ ended (fieldCount sheet) fuel out (done (storeOf after) (word % 4294967296))
+    unfolding runFrom
+    runs-done out = ap (ended (fieldCount sheet) fuel out) ends-done
+
+  module _ (high : 281474976710656 ≤ word) where
+    ends-stopped : executed ≡ stopOf word
+    ends-stopped = sym runs-as ∙ end-stop word (storeOf after) high
+
+    pub left-stopped : word % 4294967296 ≤ fuel
+    left-stopped =
+        split (eqb (word / 281474976710656) 12)
+        (λ e. omega (arith, d .ran .told high .nothing (eqb-true _ _ e)))
+        (λ e. units-stopped _ _ _ _ fuel _ _ _ (ends-stopped ∙ other-stop word e))
+
+    pub runs-stopped : (out : List ℕ) → runFrom sheet store mode fuel out ≡ ended (fieldCount sheet) fuel out (stopOf word)
+    unfolding runFrom
+    runs-stopped out = ap (ended (fieldCount sheet) fuel out) ends-stopped

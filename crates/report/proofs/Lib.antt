@@ -1,0 +1,8 @@
+-- Laws behind the runner: `Putting` has texts put one after another, `Digits` the digits of a number, `Fields` the parts of a field's line,
+-- `Printing` how long the text can be, `Trial` document 01's trial, and `Filing` the parts of a file.
+pub mod Putting
+pub mod Digits
+pub mod Fields
+pub mod Printing
+pub mod Trial
+pub mod Filing

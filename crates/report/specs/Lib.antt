@@ -1,0 +1,5 @@
+-- What the runner program reads and prints: `File` has the parts of what it reads, `Text` the text that it prints, and
+-- `Putting` what it means that a text is put into a buffer.
+pub mod File
+pub mod Text
+pub mod Putting

@@ -1,0 +1,16 @@
+//! The comparison of the model with others, up to the first difference: its load
+//! with any judge of sheets, its run with any runner of calls.
+
+pub mod load;
+pub mod run;
+
+use std::fmt;
+
+/// Writes a line of bytes in hex under their name.
+fn hex(out: &mut fmt::Formatter, name: &str, bytes: &[u8]) -> fmt::Result {
+    write!(out, "{name}, {} bytes: ", bytes.len())?;
+    bytes
+        .iter()
+        .try_for_each(|byte| write!(out, "{byte:02x}"))?;
+    writeln!(out)
+}

@@ -1,0 +1,134 @@
+//! The model of run: takes sheet, store, mode and fuel and writes a final store.
+//! Here stand the call, its checks in the order of the table and what it brings
+//! about; `follow` has the run itself.
+
+use super::answer::number::{DONE, MARK, MODE_OR_FUEL, OUTPUT, STORE};
+use super::answer::Answer;
+use super::follow::{Run, Stop};
+use super::judged;
+use super::rules::{Rules, DOCUMENT};
+use super::sheet::Sheet;
+use super::store::{entries, Store};
+
+/// A call of run.
+#[derive(Clone, Debug, PartialEq, Eq)]
+pub struct Call {
+    pub sheet: Vec<u8>,
+    pub store: Vec<u8>,
+    pub mode: u32,
+    pub fuel: u32,
+    /// What stands in the output before the call.
+    pub output: Vec<u8>,
+}
+
+/// What a call brings about: the answer, and the bytes written from the start
+/// of the output on. Later bytes stay.
+#[derive(Clone, Debug, PartialEq, Eq)]
+pub struct Outcome {
+    pub answer: Answer,
+    pub written: Vec<u8>,
+}
+
+/// Mode 0 and mode 1.
+#[derive(Clone, Copy, Debug, PartialEq, Eq)]
+pub enum Mode {
+    Strict,
+    Permissive,
+}
+
+/// Run by the document's rules.
+pub fn run(call: &Call) -> Outcome {
+    run_by(&DOCUMENT, call)
+}
+
+/// Run by these rules.
+pub fn run_by(rules: &Rules, call: &Call) -> Outcome {
+    match Start::checked(rules, call) {
+        Ok(start) => start.run(rules).outcome(),
+        Err(number) => Outcome {
+            answer: Answer::plain(number),
+            written: Vec::new(),
+        },
+    }
+}
+
+/// A call that has passed the checks.
+pub struct Start {
+    pub sheet: Sheet,
+    pub store: Store,
+    pub mode: Mode,
+    pub fuel: u32,
+}
+
+impl Start {
+    /// Rows 10, 1 to 7, 8, 9 and 11, in the order of checks.
+    pub fn checked(rules: &Rules, call: &Call) -> Result<Start, u8> {
+        if !(rules.mode_and_fuel_are_right)(call.mode, call.fuel) {
+            return Err(MODE_OR_FUEL);
+        }
+        let mode = match call.mode {
+            0 => Mode::Strict,
+            _ => Mode::Permissive,
+        };
+        let sheet = judged(&call.sheet)?;
+        if !(rules.store_fits)(&sheet, &call.store) {
+            return Err(STORE);
+        }
+        if !entries(&call.store).all(|(mark, _)| (rules.mark_is_right)(&sheet, mode, mark)) {
+            return Err(MARK);
+        }
+        if !(rules.output_is_long_enough)(&sheet, call.output.len()) {
+            return Err(OUTPUT);
+        }
+        Ok(Start {
+            store: Store::read(&sheet, &call.store),
+            sheet,
+            mode,
+            fuel: call.fuel,
+        })
+    }
+
+    /// Follows the last node, which is the whole command.
+    pub fn run(self, rules: &Rules) -> End {
+        let last = self.sheet.nodes.len() - 1;
+        let mut run = Run::start(rules, &self);
+        let stop = run.command(last).err();
+        End {
+            stop,
+            units: self.fuel - run.fuel_left,
+            store: run.store,
+        }
+    }
+}
+
+/// Where a run has come to: why it stopped, if not at its end.
+pub struct End {
+    pub stop: Option<Stop>,
+    pub units: u32,
+    pub store: Store,
+}
+
+impl End {
+    /// Success is number 0, place 0, and writes exactly the store. A refusal
+    /// writes nothing.
+    pub fn outcome(&self) -> Outcome {
+        match self.stop {
+            None => Outcome {
+                answer: self.answer(DONE, 0),
+                written: self.store.bytes(),
+            },
+            Some(Stop { number, place }) => Outcome {
+                answer: self.answer(number, place),
+                written: Vec::new(),
+            },
+        }
+    }
+
+    fn answer(&self, number: u8, place: usize) -> Answer {
+        Answer {
+            number,
+            place: u16::try_from(place).expect("a node's number has two bytes"),
+            units: self.units,
+        }
+    }
+}

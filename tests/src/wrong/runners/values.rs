@@ -1,0 +1,226 @@
+//! Runners wrong about values: results at the ends of the range, division,
+//! truth, and which side is worked out when.
+
+use super::{in_rules, Faults, WrongRunner};
+use crate::model::follow::{Run, Stop};
+use crate::model::number::{DIVISOR, OUT_OF_RANGE};
+use crate::model::rules::{Rules, Sides, DOCUMENT};
+use crate::model::values::{operate, Operator, GREATEST, LEAST};
+use Operator::*;
+
+pub fn runners() -> Vec<WrongRunner> {
+    let operators = [RANGES, DIVISIONS, COMPARISONS, AND_OR].concat();
+    let mut runners = in_rules(&operators, |operate| Rules {
+        operate,
+        ..DOCUMENT
+    });
+    runners.extend(in_rules(NOTS, |not| Rules { not, ..DOCUMENT }));
+    runners.extend(in_rules(TRUTHS, |is_true| Rules {
+        is_true,
+        ..DOCUMENT
+    }));
+    runners.extend(in_rules(SIDES, |both_sides| Rules {
+        both_sides,
+        ..DOCUMENT
+    }));
+    runners
+}
+
+type Operate = fn(Operator, i64, i64) -> Result<i64, u8>;
+
+/// The lowest four bytes of an exact result.
+fn wrapped(exact: i64) -> i64 {
+    i64::from(exact as i32)
+}
+
+const RANGES: Faults<Operate> = &[
+    ("sums wrap", |operator, left, right| match operator {
+        Plus => Ok(wrapped(left + right)),
+        _ => operate(operator, left, right),
+    }),
+    ("differences wrap", |operator, left, right| match operator {
+        Minus => Ok(wrapped(left - right)),
+        _ => operate(operator, left, right),
+    }),
+    ("products wrap", |operator, left, right| match operator {
+        Times => Ok(wrapped(left * right)),
+        _ => operate(operator, left, right),
+    }),
+    ("quotients wrap", |operator, left, right| match operator {
+        Divide if right != 0 => Ok(wrapped(left / right)),
+        _ => operate(operator, left, right),
+    }),
+    (
+        "sums stay at the end of the range",
+        |operator, left, right| match operator {
+            Plus => Ok((left + right).clamp(LEAST, GREATEST)),
+            _ => operate(operator, left, right),
+        },
+    ),
+    (
+        "the greatest is out of range",
+        |operator, left, right| match operate(operator, left, right) {
+            Ok(GREATEST) => Err(OUT_OF_RANGE),
+            result => result,
+        },
+    ),
+    (
+        "the least is out of range",
+        |operator, left, right| match operate(operator, left, right) {
+            Ok(LEAST) => Err(OUT_OF_RANGE),
+            result => result,
+        },
+    ),
+];
+
+const DIVISIONS: Faults<Operate> = &[
+    (
+        "quotients drop downward",
+        |operator, left, right| match operator {
+            Divide if right != 0 && left % right != 0 => {
+                Ok(left / right - i64::from((left < 0) != (right < 0)))
+            }
+            _ => operate(operator, left, right),
+        },
+    ),
+    (
+        "the remainder takes the divisor's sign",
+        |operator, left, right| match operate(operator, left, right) {
+            Ok(rest) if operator == Remainder && rest * right < 0 => Ok(rest + right),
+            result => result,
+        },
+    ),
+    (
+        "no remainder is negative",
+        |operator, left, right| match operator {
+            Remainder if right != 0 => Ok(left.rem_euclid(right)),
+            _ => operate(operator, left, right),
+        },
+    ),
+    (
+        "the least's remainder by -1 stops",
+        |operator, left, right| match (operator, left, right) {
+            (Remainder, LEAST, -1) => Err(OUT_OF_RANGE),
+            _ => operate(operator, left, right),
+        },
+    ),
+    ("a quotient by 0 is 0", |operator, left, right| {
+        match (operator, right) {
+            (Divide, 0) => Ok(0),
+            _ => operate(operator, left, right),
+        }
+    }),
+    (
+        "a remainder by 0 is the dividend",
+        |operator, left, right| match (operator, right) {
+            (Remainder, 0) => Ok(left),
+            _ => operate(operator, left, right),
+        },
+    ),
+    ("13 for divisor 0", |operator, left, right| {
+        operate(operator, left, right).map_err(|_| OUT_OF_RANGE)
+    }),
+    ("14 for the least by -1", |operator, left, right| {
+        match (operator, left, right) {
+            (Divide, LEAST, -1) => Err(DIVISOR),
+            _ => operate(operator, left, right),
+        }
+    }),
+];
+
+const COMPARISONS: Faults<Operate> = &[
+    ("less for at most", |operator, left, right| match operator {
+        AtMost => operate(Less, left, right),
+        _ => operate(operator, left, right),
+    }),
+    ("at most for less", |operator, left, right| match operator {
+        Less => operate(AtMost, left, right),
+        _ => operate(operator, left, right),
+    }),
+    (
+        "less without signs",
+        |operator, left, right| match operator {
+            Less => Ok(i64::from((left as u32) < right as u32)),
+            _ => operate(operator, left, right),
+        },
+    ),
+    (
+        "at most by the difference's sign",
+        |operator, left, right| match operator {
+            AtMost => Ok(i64::from(wrapped(left - right) <= 0)),
+            _ => operate(operator, left, right),
+        },
+    ),
+    ("equal gives -1", |operator, left, right| match operator {
+        Equal => Ok(-i64::from(left == right)),
+        _ => operate(operator, left, right),
+    }),
+];
+
+const AND_OR: Faults<Operate> = &[
+    ("and by bits", |operator, left, right| match operator {
+        And => Ok(left & right),
+        _ => operate(operator, left, right),
+    }),
+    ("or by bits", |operator, left, right| match operator {
+        Or => Ok(left | right),
+        _ => operate(operator, left, right),
+    }),
+    (
+        "and gives its right side",
+        |operator, left, right| match operator {
+            And if left != 0 => Ok(right),
+            _ => operate(operator, left, right),
+        },
+    ),
+];
+
+const NOTS: Faults<fn(i64) -> i64> = &[
+    ("not by bits", |value| !value),
+    ("not of a truth other than 1", |value| i64::from(value != 1)),
+    ("not keeps the value", |value| value),
+];
+
+const TRUTHS: Faults<fn(i64) -> bool> = &[
+    ("only 1 is a true test", |value| value == 1),
+    ("only numbers above 0 are a true test", |value| value > 0),
+    ("only the low byte of a test", |value| value as u8 != 0),
+    ("tests the other way round", |value| value == 0),
+];
+
+type BothSides = fn(&Run, Operator, usize, usize) -> Result<Sides, Stop>;
+
+const SIDES: Faults<BothSides> = &[
+    ("right is worked out before left", |run, _, left, right| {
+        let right = run.expression(right)?;
+        Ok((run.expression(left)?, right))
+    }),
+    ("left and right exchanged", |run, _, left, right| {
+        let left = run.expression(left)?;
+        Ok((run.expression(right)?, left))
+    }),
+    ("and stops early", |run, operator, left, right| {
+        let left = run.expression(left)?;
+        match operator {
+            And if left.value == 0 => Ok((left, left)),
+            _ => Ok((left, run.expression(right)?)),
+        }
+    }),
+    ("or stops early", |run, operator, left, right| {
+        let left = run.expression(left)?;
+        match operator {
+            Or if left.value != 0 => Ok((left, left)),
+            _ => Ok((left, run.expression(right)?)),
+        }
+    }),
+    (
+        "a stop right of a false and is not told",
+        |run, operator, left, right| {
+            let left = run.expression(left)?;
+            match operator {
+                And if left.value == 0 => Ok((left, run.expression(right).unwrap_or(left))),
+                _ => Ok((left, run.expression(right)?)),
+            }
+        },
+    ),
+];
