@@ -2,6 +2,7 @@
  *
  * Each run is compared first: its answer word, its final store and the units that it must spend. */
 #define _POSIX_C_SOURCE 200809L
+#include "beltuqash.h"
 #include "calls.h"
 #include "monitor.h"
 #include "sheets.h"
@@ -140,7 +141,7 @@ static void compare_runs(const char *name, const struct job *job)
     uint64_t word = run(beltuqash_run, job, by_archive);
     if (word != run(c_run, job, by_c) || memcmp(by_archive, by_c, STORE_MOST) != 0)
         fail(name, "archive and C differ");
-    if (number_of(word) != DONE || units_of(word) != job->units)
+    if (beltuqash_number(word) != DONE || beltuqash_units(word) != job->units)
         fail(name, "the run does not finish with the units that it should spend");
 }
 

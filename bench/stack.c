@@ -3,6 +3,7 @@
  * The sheets are 64 deep in every shape of nesting: commands, expressions, and an expression below a nest of commands.
  * Exit 1 if a call of the archive takes more than the limit. */
 #define _GNU_SOURCE
+#include "beltuqash.h"
 #include "calls.h"
 #include "monitor.h"
 #include "sheets.h"
@@ -118,7 +119,7 @@ static struct stacks measure(const struct monitor *monitor, const struct draft *
         struct call run = {.run = monitor->run, .sheet = &sheet, .store = &store, .mode = mode};
         struct stacks stacks = {stack_of(&load), stack_of(&run)};
         keep_most(&most, stacks);
-        if ((numbers >> number_of(load.word) & 1) == 0 || (numbers >> number_of(run.word) & 1) == 0)
+        if ((numbers >> beltuqash_number(load.word) & 1) == 0 || (numbers >> beltuqash_number(run.word) & 1) == 0)
             fail("a call ends with a number that it should not");
     }
     return most;

@@ -1,5 +1,5 @@
 /* Document 01's trials, run on the monitor by hand: a wrong C would be a wrong measure. */
-#include "calls.h"
+#include "beltuqash.h"
 #include "monitor.h"
 #include "sheets.h"
 
@@ -125,7 +125,7 @@ static void try_marks(void)
     expect(holds(assign(3, PARTIAL + 1, 0, PERMISSIVE), 0, PARTIAL + 1, 7), "context 3 into partial 1: partial 1");
     expect(holds(assign(1, 3, PARTIAL + 2, PERMISSIVE), 0, PARTIAL + 3, 7), "a partial value leaves a partial field");
     expect(is(assign(PARTIAL + 1, 1, 0, PERMISSIVE), PARTIAL_TEST, 4, 1), "a partial test: 16");
-    expect(number_of(assign(1, 2, 0, STRICT).word) == CONTEXT_ABOVE, "context 1 into whole 2, strict: 15");
+    expect(beltuqash_number(assign(1, 2, 0, STRICT).word) == CONTEXT_ABOVE, "context 1 into whole 2, strict: 15");
     expect(is(assign(1, 1, PARTIAL + 1, STRICT), MARK_WRONG, 0, 0), "a partial mark in a strict run: 9");
     expect(is(assign(4, 1, 1, PERMISSIVE), MARK_WRONG, 0, 0), "an unknown level: 9");
     expect(is(assign(MARKS, 1, 1, PERMISSIVE), MARK_WRONG, 0, 0), "a mark above 31: 9");
@@ -165,8 +165,8 @@ static void try_flag(void)
         struct outcome done = run(&s.draft, mode, 6);
         expect(is(done, DONE, 0, 6) && holds(done, Q, 0, 1), "cost 600: q = 1 after 6 units");
         expect(is(run(&s.draft, mode, 5), FUEL_USED_UP, s.set_q, 5), "cost 600, fuel 5: 12");
-        expect(number_of(run(&s.draft, mode, 0).word) == FUEL_USED_UP, "fuel 0: 12");
-        expect(number_of(run(&s.draft, mode, FUEL_LIMIT).word) == DONE, "fuel 1,000,000 is taken");
+        expect(beltuqash_number(run(&s.draft, mode, 0).word) == FUEL_USED_UP, "fuel 0: 12");
+        expect(beltuqash_number(run(&s.draft, mode, FUEL_LIMIT).word) == DONE, "fuel 1,000,000 is taken");
         expect(is(run(&s.draft, mode, FUEL_LIMIT + 1), MODE_OR_FUEL, 0, 0), "fuel 1,000,001: 10");
     }
     draft_flag(&s, 400, false);
@@ -273,7 +273,7 @@ static void try_example(void)
     expect(c_run(sheet, sizeof sheet, store, 6, PERMISSIVE, 9, out, 8) == STORE_SIZE, "a cut store: 8");
     expect(c_run(sheet, sizeof sheet, two_fields, 7, PERMISSIVE, 9, out, 8) == STORE_SIZE, "another count: 8");
     expect(c_run(sheet, sizeof sheet, store, 7, PERMISSIVE, 9, out, 6) == OUTPUT_SHORT, "a short output: 11");
-    expect(number_of(c_run(sheet, sizeof sheet, store, 7, PERMISSIVE, 0, out, 8)) == FUEL_USED_UP, "fuel 0: 12");
+    expect(beltuqash_number(c_run(sheet, sizeof sheet, store, 7, PERMISSIVE, 0, out, 8)) == FUEL_USED_UP, "fuel 0: 12");
     expect(memcmp(out, (const uint8_t[]){9, 9, 9, 9, 9, 9, 9, 9}, 8) == 0, "a refusal writes nothing");
     expect(c_run(sheet, sizeof sheet, store, 7, PERMISSIVE, 9, out, 8) == (uint64_t)1 << 32, "the example: 1 unit");
     expect(memcmp(out, (const uint8_t[]){1, 0, 1, 42, 0, 0, 0, 9}, 8) == 0, "the example: q = 42, the last byte stays");

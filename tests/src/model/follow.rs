@@ -2,6 +2,7 @@
 //! recursion over the nodes. What is the document's to decide stands in `rules`.
 
 use super::answer::number::FUEL_USED_UP;
+use super::marks::Mark;
 use super::rules::{Assigned, Contexts, Rules};
 use super::run::{Mode, Start};
 use super::sheet::Sheet;
@@ -62,7 +63,10 @@ impl Run<'_> {
                 let result = (self.rules.operate)(operator, left.value, right.value);
                 Ok(Marked {
                     value: at(node, result)?,
-                    mark: (self.rules.mark_of_operator)(levels, left.mark, right.mark),
+                    mark: Mark {
+                        level: (self.rules.level_of_operator)(levels, left.mark, right.mark),
+                        partial: (self.rules.operator_is_partial)(left.mark, right.mark),
+                    },
                 })
             }
             Expression::Not { of } => self.expression(of).map(|of| Marked {

@@ -24,7 +24,8 @@ pub struct Rules {
     pub is_true: fn(i64) -> bool,
     pub both_sides: fn(&Run, Operator, usize, usize) -> Result<Sides, Stop>,
     pub mark_of_constant: fn(&Levels) -> Mark,
-    pub mark_of_operator: fn(&Levels, Mark, Mark) -> Mark,
+    pub level_of_operator: fn(&Levels, Mark, Mark) -> usize,
+    pub operator_is_partial: fn(Mark, Mark) -> bool,
     pub mark_of_not: fn(&Levels, Mark) -> Mark,
     pub mark_of_seal: fn(&Levels, Mark) -> Mark,
     pub first_context: fn(&Levels) -> usize,
@@ -66,7 +67,8 @@ pub const DOCUMENT: Rules = Rules {
     is_true: values::is_true,
     both_sides,
     mark_of_constant,
-    mark_of_operator,
+    level_of_operator,
+    operator_is_partial,
     mark_of_not,
     mark_of_seal,
     first_context,
@@ -115,9 +117,14 @@ fn mark_of_constant(levels: &Levels) -> Mark {
     Mark::whole(levels.bottom())
 }
 
-/// An operator's mark is the join of both levels, partial if either is.
-fn mark_of_operator(levels: &Levels, left: Mark, right: Mark) -> Mark {
-    left.join(right, levels)
+/// An operator's mark is the join of both levels,
+fn level_of_operator(levels: &Levels, left: Mark, right: Mark) -> usize {
+    join(levels, left.level, right.level)
+}
+
+/// and it is partial if either is.
+fn operator_is_partial(left: Mark, right: Mark) -> bool {
+    left.partial || right.partial
 }
 
 /// "Not" keeps the mark.

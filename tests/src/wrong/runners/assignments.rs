@@ -4,15 +4,12 @@ use super::{in_rules, Faults, WrongRunner};
 use crate::model::levels::Levels;
 use crate::model::marks::{join, meet, Mark};
 use crate::model::number::{CONTEXT, PARTIAL_TEST};
-use crate::model::rules::{Assigned, Rules, DOCUMENT};
+use crate::model::rules::{Assigned, DOCUMENT};
 use crate::model::run::Mode;
 
 pub fn runners() -> Vec<WrongRunner> {
     let faults = [LYING_BELOW, BELOW, NOT_BELOW, STOPS].concat();
-    in_rules(&faults, |mark_of_assigned| Rules {
-        mark_of_assigned,
-        ..DOCUMENT
-    })
+    in_rules! { mark_of_assigned: &faults }
 }
 
 type Assign = fn(&Levels, Mode, Assigned) -> Result<Mark, u8>;

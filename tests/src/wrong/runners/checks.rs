@@ -4,30 +4,20 @@ use super::{in_rules, Faults, Named, WrongRunner};
 use crate::compare::run::GUARD;
 use crate::model::marks::Mark;
 use crate::model::number::STORE;
-use crate::model::rules::{Rules, DOCUMENT, MOST_FUEL};
+use crate::model::rules::{DOCUMENT, MOST_FUEL};
 use crate::model::run::Mode;
 use crate::model::sheet::Sheet;
 use crate::model::store::{count, length, ENTRY_BYTES};
 use crate::model::{run, Call};
 
 pub fn runners() -> Vec<WrongRunner> {
-    let mut runners = in_rules(MODES_AND_FUELS, |mode_and_fuel_are_right| Rules {
-        mode_and_fuel_are_right,
-        ..DOCUMENT
-    });
-    runners.extend(in_rules(STORES, |store_fits| Rules {
-        store_fits,
-        ..DOCUMENT
-    }));
+    let mut runners = in_rules! {
+        mode_and_fuel_are_right: MODES_AND_FUELS,
+        store_fits: STORES,
+        mark_is_right: MARKS,
+        output_is_long_enough: OUTPUTS,
+    };
     runners.push(WrongRunner::making(SHORT_STORE));
-    runners.extend(in_rules(MARKS, |mark_is_right| Rules {
-        mark_is_right,
-        ..DOCUMENT
-    }));
-    runners.extend(in_rules(OUTPUTS, |output_is_long_enough| Rules {
-        output_is_long_enough,
-        ..DOCUMENT
-    }));
     runners.extend(MISTAKEN.iter().copied().map(WrongRunner::mistaking));
     runners.extend(OVERLOOKED.iter().copied().map(overlooking));
     runners

@@ -4,28 +4,17 @@ use super::{in_rules, Faults, WrongRunner};
 use crate::model::levels::Levels;
 use crate::model::marks::{join, Mark};
 use crate::model::number::{CONTEXT, PARTIAL_TEST};
-use crate::model::rules::{Contexts, Rules, DOCUMENT};
+use crate::model::rules::{Contexts, DOCUMENT};
 use crate::model::typed::Command;
 
 pub fn runners() -> Vec<WrongRunner> {
-    let mut runners = in_rules(FIRST, |first_context| Rules {
-        first_context,
-        ..DOCUMENT
-    });
-    runners.extend(in_rules(BODIES, |context_of_body| Rules {
-        context_of_body,
-        ..DOCUMENT
-    }));
-    runners.extend(in_rules(NEXT_ROUNDS, |context_of_next_round| Rules {
-        context_of_next_round,
-        ..DOCUMENT
-    }));
-    runners.extend(in_rules(AFTERWARDS, |context_afterwards| Rules {
-        context_afterwards,
-        ..DOCUMENT
-    }));
-    runners.extend(in_rules(UNITS, |units| Rules { units, ..DOCUMENT }));
-    runners
+    in_rules! {
+        first_context: FIRST,
+        context_of_body: BODIES,
+        context_of_next_round: NEXT_ROUNDS,
+        context_afterwards: AFTERWARDS,
+        units: UNITS,
+    }
 }
 
 const FIRST: Faults<fn(&Levels) -> usize> = &[

@@ -2,84 +2,49 @@
 
 use super::{in_rules, Faults, WrongRunner};
 use crate::model::levels::Levels;
-use crate::model::marks::{meet, Mark};
-use crate::model::rules::{Rules, DOCUMENT};
+use crate::model::marks::{join, meet, Mark};
 
 pub fn runners() -> Vec<WrongRunner> {
-    let mut runners = in_rules(OPERATORS, |mark_of_operator| Rules {
-        mark_of_operator,
-        ..DOCUMENT
-    });
-    runners.extend(in_rules(CONSTANTS, |mark_of_constant| Rules {
-        mark_of_constant,
-        ..DOCUMENT
-    }));
-    runners.extend(in_rules(NOTS, |mark_of_not| Rules {
-        mark_of_not,
-        ..DOCUMENT
-    }));
-    runners.extend(in_rules(SEALS, |mark_of_seal| Rules {
-        mark_of_seal,
-        ..DOCUMENT
-    }));
-    runners
+    in_rules! {
+        operator_is_partial: PARTIAL_OPERATORS,
+        level_of_operator: LEVELS_OF_OPERATORS,
+        mark_of_constant: CONSTANTS,
+        mark_of_not: NOTS,
+        mark_of_seal: SEALS,
+    }
 }
 
-const OPERATORS: Faults<fn(&Levels, Mark, Mark) -> Mark> = &[
-    ("an operator loses partial", |levels, left, right| {
-        Mark::whole(left.join(right, levels).level)
+const PARTIAL_OPERATORS: Faults<fn(Mark, Mark) -> bool> = &[
+    ("an operator loses partial", |_, _| false),
+    ("an operator is partial only if both are", |left, right| {
+        left.partial && right.partial
     }),
-    (
-        "an operator is partial only if both are",
-        |levels, left, right| Mark {
-            partial: left.partial && right.partial,
-            ..left.join(right, levels)
-        },
-    ),
-    (
-        "an operator is partial if the left is",
-        |levels, left, right| Mark {
-            partial: left.partial,
-            ..left.join(right, levels)
-        },
-    ),
-    (
-        "an operator is partial if the right is",
-        |levels, left, right| Mark {
-            partial: right.partial,
-            ..left.join(right, levels)
-        },
-    ),
-    ("an operator has the left's level", |levels, left, right| {
-        Mark {
-            level: left.level,
-            ..left.join(right, levels)
-        }
+    ("an operator is partial if the left is", |left, _| {
+        left.partial
     }),
-    (
-        "an operator has the right's level",
-        |levels, left, right| Mark {
-            level: right.level,
-            ..left.join(right, levels)
-        },
-    ),
+    ("an operator is partial if the right is", |_, right| {
+        right.partial
+    }),
+];
+
+const LEVELS_OF_OPERATORS: Faults<fn(&Levels, Mark, Mark) -> usize> = &[
+    ("an operator has the left's level", |_, left, _| left.level),
+    ("an operator has the right's level", |_, _, right| {
+        right.level
+    }),
     (
         "an operator has the greater level number",
-        |levels, left, right| Mark {
-            level: left.level.max(right.level),
-            ..left.join(right, levels)
-        },
+        |_, left, right| left.level.max(right.level),
     ),
-    ("an operator has the meet", |levels, left, right| Mark {
-        level: meet(levels, left.level, right.level),
-        ..left.join(right, levels)
+    ("an operator has the meet", |levels, left, right| {
+        meet(levels, left.level, right.level)
     }),
     (
         "an operator has a partial side's level",
         |levels, left, right| match (left.partial, right.partial) {
-            (true, false) => left,
-            (false, true) => right,
-            _ => left.join(right, levels),
+            (true, false) => left.level,
+            (false, true) => right.level,
+            _ => join(levels, left.level, right.level),
         },
     ),
 ];

@@ -76,13 +76,24 @@ impl WrongRunner {
 }
 
 /// A runner for each fault of a table, in the document's rules.
-fn in_rules<Fault: Copy>(
+fn in_rule<Fault: Copy>(
     faults: &[Named<Fault>],
     rules: impl Fn(Fault) -> Rules,
 ) -> Vec<WrongRunner> {
     let runner = |&(name, fault): &Named<Fault>| WrongRunner::by((name, rules(fault)));
     faults.iter().map(runner).collect()
 }
+
+/// Runners wrong about one rule each: rules by name, each with its table of faults.
+macro_rules! in_rules {
+    ($($rule:ident: $faults:expr),+ $(,)?) => {{
+        use $crate::model::rules::{Rules, DOCUMENT};
+        let mut runners = Vec::new();
+        $(runners.extend(super::in_rule($faults, |$rule| Rules { $rule, ..DOCUMENT }));)+
+        runners
+    }};
+}
+use in_rules;
 
 /// All wrong runners.
 pub fn all() -> Vec<WrongRunner> {

@@ -4,26 +4,18 @@
 use super::{in_rules, Faults, WrongRunner};
 use crate::model::follow::{Run, Stop};
 use crate::model::number::{DIVISOR, OUT_OF_RANGE};
-use crate::model::rules::{Rules, Sides, DOCUMENT};
+use crate::model::rules::Sides;
 use crate::model::values::{operate, Operator, GREATEST, LEAST};
 use Operator::*;
 
 pub fn runners() -> Vec<WrongRunner> {
     let operators = [RANGES, DIVISIONS, COMPARISONS, AND_OR].concat();
-    let mut runners = in_rules(&operators, |operate| Rules {
-        operate,
-        ..DOCUMENT
-    });
-    runners.extend(in_rules(NOTS, |not| Rules { not, ..DOCUMENT }));
-    runners.extend(in_rules(TRUTHS, |is_true| Rules {
-        is_true,
-        ..DOCUMENT
-    }));
-    runners.extend(in_rules(SIDES, |both_sides| Rules {
-        both_sides,
-        ..DOCUMENT
-    }));
-    runners
+    in_rules! {
+        operate: &operators,
+        not: NOTS,
+        is_true: TRUTHS,
+        both_sides: SIDES,
+    }
 }
 
 type Operate = fn(Operator, i64, i64) -> Result<i64, u8>;
