@@ -12,9 +12,11 @@ use Rattle.levels.specs.Levels.{count, lowestOf}
 use Rattle.levels.specs.Lattice.{lattice}
 use Rattle.levels.proofs.Bounds.{lowest-is}
 use Rattle.sheet.specs.Verdict.{numberOf, passesOf}
-use Rattle.sheet.specs.Sections.{fieldsAt, nodesAt, levelsOf, constantsOf, nodesOf}
+use Rattle.sheet.specs.Sections.{fieldsAt, nodesAt, levelsOf, fieldsOf, constantsOf, nodesOf}
 use Rattle.sheet.specs.Load.{fieldCount, lastOf, programOf, loadOf, Loaded}
 use Rattle.sheet.proofs.Parts.{entries-length}
+use Rattle.sheet.proofs.Verdicts.{passes-is}
+use Rattle.sheet.proofs.Loading.{loaded}
 use Rattle.flow.specs.Rules as rules
 use Rattle.flow.specs.Rules.{outOfRange, divisorZero, notBelow, partialTest, End, done, stopped, exec}
 use Rattle.flow.specs.Marks.{Mark, Mode, strict, permissive, modeOf, marking}
@@ -94,15 +96,28 @@ module _ (mode fuel : ℕ) where
             unfolding run
             goes-on e = rw (a, p, f, m, e)
 
+    -- number 0 comes only of a sheet that passes
+    pub done-loaded : whole .answer .number ≡ 0 → Loaded sheet
+    done-loaded zero-is =
+        split asked
+        (λ a. split (passesOf (loadOf sheet))
+        (λ p. loaded sheet (passes-is _ p))
+        (λ e. absurd (eqb-false (numberOf (loadOf sheet)) 0 e (sym (ap (λ (x : Outcome). x .answer .number) (told-load a e)) ∙ zero-is))))
+        (λ e. let ten : 10 ≡ 0 = sym (ap (λ (x : Outcome). x .answer .number) (told-10 e)) ∙ zero-is in absurd (omega arith))
+
 -- ── what a sheet and a store have ───────────────────────────────────────────────────────────
 
 module _ (sheet : List ℕ) (loaded : Loaded sheet) where
-  pub few-fields : fieldCount sheet ≤ 64
-  few-fields =
+  -- 1 to 64 fields
+  pub fields-long : length (fieldsOf sheet) ≤ 512
+  fields-long =
       let part = loaded .sections .fields in
       let long = entries-length 8 (drop (fieldsAt sheet) sheet) (part .whole) in
       let few = part .few in
       omega arith
+
+  pub few-fields : fieldCount sheet ≤ 64
+  few-fields = omega (arith, fields-long)
 
   -- 1 to 1,024 nodes
   pub nodes-long : (8 ≤ length (nodesOf sheet)) × (length (nodesOf sheet) ≤ 8192)

@@ -1,4 +1,5 @@
--- What the functions' proofs share: words that answer, marks and stores as bytes, what expressions give, what runs leave, and what commands do.
+-- What the functions' proofs share: words that answer, marks and stores as bytes, what expressions give, what runs leave, what commands do,
+-- and where runs stop.
 pub mod Words
 pub mod Marking
 pub mod Entries
@@ -8,3 +9,4 @@ pub mod Ends
 pub mod Assigning
 pub mod Testing
 pub mod Running
+pub mod Stops

@@ -80,13 +80,14 @@ unfolding doneText
 done-length units fields store n fits bytes =
     simp length-append (omega (arith, part-length 9 units (omega arith), each-length n 33 (fieldLine fields store) (λ k. line-length fields store k bytes)))
 
-refused-length : (number place units : ℕ) → number < 256 → place < 65536 → units < 4294967296 → length (refusedText number place units) ≤ 29
+pub refused-length : (number place units : ℕ) → number < 256 → place < 65536 → units < 4294967296 → length (refusedText number place units) ≤ 29
 unfolding refusedText
 refused-length number place units few small fits =
     simp length-append (omega (arith, part-length 2 number (omega arith), part-length 4 place (omega arith), part-length 9 units (omega arith)))
 
 -- the text of a run of at most 64 fields
-pub printed-length : (word : ℕ) (fields store : List ℕ) → word < 18446744073709551616 → length fields ≤ 512 → ((k : ℕ) → getD store k 0 < 256) → length (printed word fields store) ≤ 2128
+pub printed-length : (word : ℕ) (fields store : List ℕ) → word < 18446744073709551616 → (word % 256 ≡ 0 → length fields ≤ 512) → ((k : ℕ) → getD store k 0 < 256)
+    → length (printed word fields store) ≤ 2128
 printed-length word fields store fits few bytes = go (decLe 1 (word % 256))
   where
     go : Dec (1 ≤ word % 256) → length (printed word fields store) ≤ 2128
@@ -95,4 +96,4 @@ printed-length word fields store fits few bytes = go (decLe 1 (word % 256))
         (omega (arith, refused-length (word % 256) (word / 256 % 65536) (word / 4294967296) (omega arith) (omega arith) (omega arith)))
     go (no done) =
         rw (printed-done word fields store (omega arith))
-        (omega (arith, done-length (word / 4294967296) fields store (length fields / 8) (omega arith) bytes))
+        (omega (arith, few (omega arith), done-length (word / 4294967296) fields store (length fields / 8) (omega arith) bytes))

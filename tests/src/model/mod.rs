@@ -11,6 +11,7 @@ pub mod names;
 pub mod nodes;
 pub mod rules;
 pub mod run;
+pub mod runner;
 pub mod sheet;
 pub mod store;
 pub mod tree;

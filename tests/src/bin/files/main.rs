@@ -1,8 +1,10 @@
 //! Writes the files that the repository stores made: the `trials` program's
 //! input, as `trials`, and the sample sheets of examples/, into the directory
-//! that it is given. The gate compares them with what is stored.
+//! that it is given; and the runner program's cases, NAME.in and NAME.out, into
+//! its folder `runner`. The gate compares them with what is stored and printed.
 
 mod parts;
+mod runner;
 mod samples;
 mod trials;
 
@@ -15,6 +17,12 @@ fn main() -> io::Result<()> {
     fs::write(directory.join("trials"), trials::input())?;
     for (name, sheet) in samples::all() {
         fs::write(directory.join(name), bytes(&sheet))?;
+    }
+    let cases = directory.join("runner");
+    fs::create_dir_all(&cases)?;
+    for case in runner::cases() {
+        fs::write(cases.join(format!("{}.in", case.name)), case.file)?;
+        fs::write(cases.join(format!("{}.out", case.name)), case.text)?;
     }
     Ok(())
 }

@@ -98,7 +98,7 @@ fn one_of_each() -> Vec<Trial> {
     ]
 }
 
-fn with_rows(rows: &[u16]) -> Sheet {
+pub fn with_rows(rows: &[u16]) -> Sheet {
     Sheet {
         levels: Levels {
             rows: rows.to_vec(),
@@ -108,7 +108,7 @@ fn with_rows(rows: &[u16]) -> Sheet {
 }
 
 /// Level i lies at or below each level from i on.
-fn chain(levels: u32) -> Vec<u16> {
+pub fn chain(levels: u32) -> Vec<u16> {
     let bits = levels.min(16);
     let all = ((1u32 << bits) - 1) as u16;
     (0..levels)
@@ -151,7 +151,7 @@ fn bushy(nodes: u16) -> Vec<Node> {
 }
 
 /// Sequences, each the second command of the next: `depth` nodes from root to leaf.
-fn nested(depth: u16) -> Vec<Node> {
+pub fn nested(depth: u16) -> Vec<Node> {
     let mut nodes = vec![SKIP];
     for _ in 1..depth {
         let inner = nodes.len() as u16 - 1;

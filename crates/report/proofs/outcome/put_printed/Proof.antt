@@ -4,8 +4,8 @@ use native.Mathlib.Omega.{arith}
 use mathlib.Core.Path.{sym}
 use Rattle.report.proofs.Putting.{put-as}
 use Rattle.report.proofs.Printing.{printed-done, printed-refused}
-use Rattle.report.proofs.put_printed.Statement.{statement}
-use Rattle.report.proofs.put_printed.Tie as tie
+use Rattle.report.proofs.outcome.put_printed.Statement.{statement}
+use Rattle.report.proofs.outcome.put_printed.Tie as tie
 
 put-done-requires : tie.Need-put-done-requires
 put-done-requires c κs =

@@ -2,8 +2,8 @@
 use borrow.Author.Needs.{needs}
 use Rattle.report.specs.Text.{lineEnd, part, refusedText}
 use Rattle.report.proofs.Putting.{put-next, room-first, room-next}
-use Rattle.report.proofs.put_refused.Statement.{statement}
-use Rattle.report.proofs.put_refused.Tie as tie
+use Rattle.report.proofs.outcome.put_refused.Statement.{statement}
+use Rattle.report.proofs.outcome.put_refused.Tie as tie
 
 put-text-requires : tie.Need-put-text-requires
 unfolding refusedText

@@ -3,8 +3,8 @@ use borrow.Author.Needs.{needs}
 use denote.Ref.{now}
 use Rattle.report.specs.Text.{lineEnd, part, fieldLines, doneText}
 use Rattle.report.proofs.Putting.{put-next, room-first, room-next}
-use Rattle.report.proofs.put_done.Statement.{statement}
-use Rattle.report.proofs.put_done.Tie as tie
+use Rattle.report.proofs.outcome.put_done.Statement.{statement}
+use Rattle.report.proofs.outcome.put_done.Tie as tie
 
 put-text-requires : tie.Need-put-text-requires
 unfolding doneText
