@@ -8,11 +8,11 @@ use Rattle.levels.specs.Levels.{count}
 use Rattle.levels.specs.Lattice.{lattice}
 use Rattle.sheet.specs.Verdict.{numberOf, passesOf}
 use Rattle.sheet.specs.Sections.{levelsOf}
-use Rattle.sheet.specs.Load.{fieldCount, programOf, loadOf}
+use Rattle.sheet.specs.Load.{fieldCount, programOf, loadOf, judging}
 use Rattle.flow.specs.Rules as rules
-use Rattle.flow.specs.Rules.{End, done, spent, stopped, exec}
-use Rattle.flow.specs.Marks.{Mark, modeOf, marking}
-use Rattle.flow.specs.Stores.{storeLength, storeOf, storeBytes, storeFits, marksRight}
+use Rattle.flow.specs.Rules.{End, done, spent, stopped, exec, running}
+use Rattle.flow.specs.Marks.{Mark, modeOf, joined, entered, stored, marking}
+use Rattle.flow.specs.Stores.{markOf, storeLength, cellAt, storeOf, entryOf, entriesOf, storeBytes, storeFits, markKnown, marksRight}
 use Rattle.beltuqash.specs.Answer.{Answer, answer}
 
 -- **Load** judges a sheet: numbers 0 to 7. Units are 0 for load, and so is the place of 1 to 7.
@@ -49,3 +49,8 @@ run sheet store mode fuel out =
     (check (marksRight (modeOf mode) (count (levelsOf sheet)) (fieldCount sheet) store) 9 out  -- a mark above 31 or its level unknown; in a strict run also a partial mark
     (check (leb (storeLength (fieldCount sheet)) (length out)) 11 out  -- output shorter than the store
     (runFrom sheet store mode fuel out)))))
+
+-- `unfolding calling` opens all of the above and what it cites of sheets, marks and stores, so that a call computes on bytes
+unfoldable pub calling : Unit {0}
+unfolding judging running modeOf joined entered stored markOf cellAt entryOf entriesOf storeBytes storeFits markKnown marksRight load ended runFrom run
+calling = tt

@@ -7,18 +7,32 @@ use lib.ListN.{length}
 use Rattle.value.specs.Values.{operatorOf, numberOf, operating}
 use Rattle.value.specs.declared.Computed.{Computed}
 use Rattle.value.specs.declared.Computed.the-variants.{Is, OutOfRange, DivisorZero}
-use Rattle.sheet.specs.Load.{judging}
-use Rattle.beltuqash.specs.Calls.{load}
+use Rattle.levels.specs.Lattice.{lattice}
+use Rattle.flow.specs.Rules as rules
+use Rattle.flow.specs.Rules.{Try, fine, fails}
+use Rattle.flow.specs.Marks.{Mark, whole, partial, permissive, marking}
+use Rattle.beltuqash.specs.Answer.{Answer, answer}
+use Rattle.beltuqash.specs.Calls.{load, run, calling}
+use Rattle.secrecy.specs.Flag.{flagSheet, storeAt}
 
--- an operator on two numbers; load of a sheet with these order rows
 pub data Asked : Type 0 where
+  -- an operator on two numbers
   operator : ℕ → ℤ → ℤ → Asked
+  -- in the diamond: the mark of an operator on two marks
+  join : Mark → Mark → Asked
+  -- in the diamond, permissive: the mark that an assignment leaves, by context, the field's mark and the value's mark
+  assign : ℕ → Mark → Mark → Asked
+  -- load of a sheet with these rows, two bytes each
   rows : List ℕ → Asked
+  -- run of the flag sheet, by cost and mode, with fuel 1,000
+  flag : ℕ → ℕ → Asked
 
--- a value, or a number of the table
+-- a value, a mark, a number of the table, or number, place and units
 pub data Came : Type 0 where
   value : ℤ → Came
+  mark : Mark → Came
   number : ℕ → Came
+  told : Answer → Came
 
 pub record Trial : Type 0 where
   pub asked : Asked
@@ -33,6 +47,14 @@ computed (Is v) = value (v .n)
 computed OutOfRange = number (numberOf OutOfRange)
 computed DivisorZero = number (numberOf DivisorZero)
 
+markLeft : Try Mark → Came
+markLeft (fine m) = mark m
+markLeft (fails why) = number (rules.numberOf why)
+
+-- the diamond's rows, two bytes each
+diamond : List ℕ
+diamond = 15 ∷ 0 ∷ 10 ∷ 0 ∷ 12 ∷ 0 ∷ 8 ∷ 0 ∷ []
+
 -- these rows, two bytes each, the field q, no constant, and the one node skip
 sheetWith : List ℕ → List ℕ
 sheetWith order =
@@ -44,18 +66,28 @@ sheetWith order =
 
 pub answerTo : Asked → Came
 answerTo (operator op x y) = computed (operatorOf op (record { n = x }) (record { n = y }))
+answerTo (join m k) = mark (marking (lattice diamond) permissive .join m k)
+answerTo (assign context old m) = markLeft (marking (lattice diamond) permissive .store 0 context old m)
 answerTo (rows order) = number (load (sheetWith order) .number)
+answerTo (flag cost mode) = told (run flagSheet (storeAt cost) mode 1000 (storeAt cost) .answer)
 
-pub trials : List Trial
-trials =
+-- where document 01 names no mark of the value, m is any mark
+pub trials : Mark → List Trial
+trials m =
     (operator 0 (pos 2147483647) (pos 1) gives number 13)  -- 2,147,483,647 + 1
     ∷ (operator 3 (negℤ (pos 2147483648)) (negℤ (pos 1)) gives number 13)  -- -2,147,483,648 / -1
     ∷ (operator 3 (negℤ (pos 7)) (pos 2) gives value (negℤ (pos 3)))  -- -7 / 2
     ∷ (operator 4 (negℤ (pos 7)) (pos 2) gives value (negℤ (pos 1)))  -- -7 % 2
     ∷ (operator 3 (pos 5) (pos 0) gives number 14)  -- 5 / 0
+    ∷ (join (whole 1) (partial 2) gives mark (partial 3))  -- whole 1 joined with partial 2
+    ∷ (assign 1 (whole 2) m gives mark (partial 0))  -- context 1 into whole 2
+    ∷ (assign 1 (partial 1) (whole 2) gives mark (whole 3))  -- context 1 into partial 1, value whole 2
+    ∷ (assign 3 (partial 1) m gives mark (partial 1))  -- context 3 into partial 1
     ∷ (rows (7 ∷ 0 ∷ 2 ∷ 0 ∷ 4 ∷ 0 ∷ []) gives number 3)
+    ∷ (flag 400 1 gives told (answer 16 17 5))  -- cost 400, permissive: at the second if, node 17
+    ∷ (flag 400 0 gives told (answer 15 8 4))  -- cost 400, strict: at flag := 1, node 8
     ∷ []
 
-pub trials-hold : map (λ (t : Trial). answerTo (t .asked)) trials ≡ map (λ (t : Trial). t .came) trials
-unfolding trials answerTo computed sheetWith load operating judging
-trials-hold = refl
+pub trials-hold : (m : Mark) → map (λ (t : Trial). answerTo (t .asked)) (trials m) ≡ map (λ (t : Trial). t .came) (trials m)
+unfolding trials answerTo computed markLeft diamond sheetWith flagSheet storeAt operating calling
+trials-hold m = refl

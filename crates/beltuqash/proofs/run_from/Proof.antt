@@ -109,7 +109,7 @@ deliver-requires : tie.Need-deliver-requires
 deliver-requires c κs =
     let r = c .before .before .before .before in
     let given = run-start r .pre in
-    rw (c .fields .ensures) (few-fields _ (given .loaded), given .room, ran r .ran .ready .long)
+    rw (c .fields .ensures) (few-fields _ (given .loaded), given .room, omega (arith, ran r .ran .ready .long))
 
 sub-pack : tie.Need-sub-pack
 sub-pack c =
