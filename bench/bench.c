@@ -110,10 +110,10 @@ struct workload {
 enum { WORKLOADS = 4 };
 
 static const struct workload workloads[WORKLOADS] = {
-    {"counting loop", draft_counting, 2, STRICT},
-    {"arithmetic, branches", draft_branching, 7, STRICT},
-    {"joins in 16 levels", draft_joins, 7, STRICT},
-    {"meets in 16 levels", draft_meets, 5, PERMISSIVE},
+    {"counting loop, a unit", draft_counting, 2, STRICT},
+    {"arithmetic and branches, a unit", draft_branching, 7, STRICT},
+    {"joins in 16 levels, a unit", draft_joins, 7, STRICT},
+    {"meets in 16 levels, a unit", draft_meets, 5, PERMISSIVE},
 };
 
 /* What is called: runs that finish with nearly all of their fuel spent, and the load of the largest sheet. */
@@ -224,22 +224,20 @@ struct measured {
     struct times at_f, at_f2;
 };
 
-static void print_runs(const struct measured *measured)
+/* One line a figure, for `run` to put together: its name, the archive's time and C's in nanoseconds, and how the archive's
+ * time grows with twice the units. */
+static void print_figure(const char *name, double archive, double c, double growth)
 {
-    printf("%-22s %15s %9s %6s", "run", "archive ns/unit", "C ns/unit", "ratio");
-    printf(" %10s %6s %6s\n", "ms at f", "2f", "ratio");
-    for (int i = 0; i < WORKLOADS; i++) {
-        double archive_f = measured[i].at_f.archive, archive = measured[i].at_f2.archive, c = measured[i].at_f2.c;
-        double units = measured[i].f2.units;
-        printf("%-22s %15.2f %9.2f %6.2f", workloads[i].name, archive * 1e9 / units, c * 1e9 / units, archive / c);
-        printf(" %10.2f %6.2f %6.2f\n", archive_f * 1e3, archive * 1e3, archive / archive_f);
-    }
+    printf("%s\t%f\t%f\t%f\n", name, archive * 1e9, c * 1e9, growth);
 }
 
-static void print_load(struct times best)
+static void print_runs(const struct measured *measured)
 {
-    printf("%-22s %15s %9s %6s\n", "load", "archive ns", "C ns", "ratio");
-    printf("%-22s %15.0f %9.0f %6.2f\n", "9,768 bytes", best.archive * 1e9, best.c * 1e9, best.archive / best.c);
+    for (int i = 0; i < WORKLOADS; i++) {
+        struct times f = measured[i].at_f, f2 = measured[i].at_f2;
+        double units = measured[i].f2.units;
+        print_figure(workloads[i].name, f2.archive / units, f2.c / units, f2.archive / f.archive);
+    }
 }
 
 int main(void)
@@ -260,6 +258,6 @@ int main(void)
         repeat_load(&largest, &load);
     }
     print_runs(measured);
-    print_load(load);
+    print_figure("load, 9,768 bytes", load.archive, load.c, 1);
     return EXIT_SUCCESS;
 }

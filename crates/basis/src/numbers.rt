@@ -14,3 +14,21 @@ pub const NODE_WRONG: u8 = 5;
 pub const NOT_USED_ONCE: u8 = 6;
 
 pub const TOO_DEEP: u8 = 7;
+
+pub const STORE_MISFIT: u8 = 8;
+
+pub const MARK_WRONG: u8 = 9;
+
+pub const MODE_OR_FUEL: u8 = 10;
+
+pub const OUT_SHORT: u8 = 11;
+
+pub const FUEL_SPENT: u8 = 12;
+
+pub const OUT_OF_RANGE: u8 = 13;
+
+pub const DIVISOR_ZERO: u8 = 14;
+
+pub const NOT_BELOW: u8 = 15;
+
+pub const PARTIAL_TEST: u8 = 16;

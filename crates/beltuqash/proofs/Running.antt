@@ -21,9 +21,9 @@ use Rattle.flow.specs.Rules as rules
 use Rattle.flow.specs.Rules.{outOfRange, divisorZero, notBelow, partialTest, End, done, stopped, exec}
 use Rattle.flow.specs.Marks.{Mark, Mode, strict, permissive, modeOf, marking}
 use Rattle.flow.specs.Stores.{storeLength, storeOf, markAt, markKnown, markTaken, marksRight, storeFits}
-use Rattle.flow.specs.Words.{whyOf}
+use Rattle.flow.specs.Words.{placeIn, numberIn, workOf, whyOf, Fetched}
 use Rattle.flow.specs.Tasks.{First, stopOf, endOf, Told, CmdIn, Ran}
-use Rattle.flow.proofs.Entries.{same-marks}
+use Rattle.flow.proofs.Entries.{fetched-mark}
 use Rattle.flow.proofs.Ends.{end-done, end-stop}
 use Rattle.flow.proofs.Units.{units-done, units-stopped}
 use Rattle.beltuqash.specs.Answer.{answer, wordOf}
@@ -159,46 +159,47 @@ number-back : (n : ℕ) → 13 ≤ n → n ≤ 16 → rules.numberOf (whyOf n) �
 unfolding whyOf
 number-back n least most = why-number (n - 13) (omega arith) ∙ omega arith
 
-other-stop : (word : ℕ) → eqb (word / 281474976710656) 12 ≡ false
-    → stopOf word ≡ stopped (whyOf (word / 281474976710656)) (word / 4294967296 % 65536) (word % 4294967296)
+other-stop : (word : ℕ) → eqb (numberIn word) 12 ≡ false → stopOf word ≡ stopped (whyOf (numberIn word)) (placeIn word) (word % 4294967296)
 unfolding stopOf
 other-stop word e = rw e
 
 module _ (word fuel : ℕ) (told : Told word) where
   module _ (fields : ℕ) (out : List ℕ) where
-    pub stop-answer : ended fields fuel out (stopOf word) .answer ≡ answer (word / 281474976710656) (word / 4294967296 % 65536) (fuel - word % 4294967296)
+    pub stop-answer : ended fields fuel out (stopOf word) .answer ≡ answer (numberIn word) (placeIn word) (fuel - word % 4294967296)
     unfolding ended stopOf
     stop-answer =
-        split (eqb (word / 281474976710656) 12)
+        split (eqb (numberIn word) 12)
         (λ e.
         let twelve = eqb-true _ _ e in
         let all : fuel - word % 4294967296 ≡ fuel = omega (arith, told .nothing twelve) in
         rw (e, twelve, all))
         (λ e.
-        let other : word / 281474976710656 ≡ 12 → ⊥ = eqb-false _ _ e in
+        let other : numberIn word ≡ 12 → ⊥ = eqb-false _ _ e in
         let least = told .least in
-        let thirteen : 13 ≤ word / 281474976710656 = omega arith in
+        let thirteen : 13 ≤ numberIn word = omega arith in
         rw (e, number-back _ thirteen (told .most)))
 
     pub stop-out : ended fields fuel out (stopOf word) .out ≡ out
     unfolding ended stopOf
-    stop-out = split (eqb (word / 281474976710656) 12) (λ e. rw e) (λ e. rw e)
+    stop-out = split (eqb (numberIn word) 12) (λ e. rw e) (λ e. rw e)
 
 -- ── a run from a store that fits ────────────────────────────────────────────────────────────
+
+-- the parts of a sheet that a run reads
+abbrev pub partsOf : List ℕ → List (List ℕ)
+partsOf sheet = levelsOf sheet ∷ constantsOf sheet ∷ nodesOf sheet ∷ []
 
 bot-is : (rows : List ℕ) → lowestOf rows ≡ lattice rows .bot
 unfolding lattice
 bot-is rows = refl
 
--- the first task may be done
-pub task-in : {sheet store : List ℕ} {mode : ℕ} {out work : List ℕ} {task : ℕ} → Given sheet store mode out → storeOf work ≡ storeOf store → length work ≡ 322
-    → First (levelsOf sheet) mode (lastOf (nodesOf sheet)) task → CmdIn (levelsOf sheet) (constantsOf sheet) (nodesOf sheet) work task
-task-in {sheet} {store} {mode} {out} {work} given same long first =
+-- the last command may be done
+pub task-in : {sheet store : List ℕ} {mode : ℕ} {out work : List ℕ} {task : ℕ} → Given sheet store mode out → Fetched store work → First (levelsOf sheet) mode task
+    → CmdIn (partsOf sheet) work (lastOf (nodesOf sheet)) task
+task-in {sheet} {store} {mode} {out} {work} given fetched first =
     let loaded = given .loaded in
     let rows = levelsOf sheet in
-    let nodes = nodesOf sheet in
     let (some, few) = nodes-long sheet loaded in
-    let inside : lastOf nodes * 8 + 8 ≤ length nodes = omega arith in
     record {
       ready = record {
         order = loaded .levels;
@@ -206,46 +207,49 @@ task-in {sheet} {store} {mode} {out} {work} given same long first =
         few-fields = few-fields sheet loaded;
         formed = loaded .nodes;
         few-nodes = few;
-        long = long;
-        marks = λ i h. rw (same-marks work store same i) (marks-known (modeOf mode) (count rows) (fieldCount sheet) store (given .marks) i h);
+        long = fetched .long;
+        words = λ i h. record {
+          value = fetched .values i;
+          mark = rw (fetched-mark fetched i) (marks-known (modeOf mode) (count rows) (fieldCount sheet) store (given .marks) i h);
+        };
         bounded = first .bounds;
       };
-      inside = rw (first .node) inside;
-      sort = rw (first .node) (loaded .command);
+      inside = omega arith;
+      sort = loaded .command;
       context = rw (first .context) (lowest-is rows (loaded .levels) .level);
     }
 
--- the first task was done, on a copy of the store
+-- the last command was done, on a work store
 pub record Done (sheet store : List ℕ) (mode : ℕ) (work : List ℕ) (task fuel : ℕ) (after : List ℕ) (word : ℕ) : Type 0 where
-  pub same : storeOf work ≡ storeOf store
-  pub first : First (levelsOf sheet) mode (lastOf (nodesOf sheet)) task
-  pub ran : Ran (levelsOf sheet) (constantsOf sheet) (nodesOf sheet) work task fuel after word
+  pub same : workOf work ≡ storeOf store
+  pub first : First (levelsOf sheet) mode task
+  pub ran : Ran (partsOf sheet) work (lastOf (nodesOf sheet)) task fuel after word
 
 module _ {sheet store : List ℕ} {mode : ℕ} {work : List ℕ} {task fuel : ℕ} {after : List ℕ} {word : ℕ} (d : Done sheet store mode work task fuel after word) where
   abbrev executed : End Mark
   executed = exec (marking (lattice (levelsOf sheet)) (modeOf mode)) (programOf sheet) (lattice (levelsOf sheet) .bot) (storeOf store) fuel
 
-  runs-as : endOf word (storeOf after) ≡ executed
-  runs-as = rw (d .first .mode-is, d .first .node, d .first .context, bot-is (levelsOf sheet), d .same) at (d .ran .is)
+  runs-as : endOf word (workOf after) ≡ executed
+  runs-as = rw (d .first .mode-is, d .first .context, bot-is (levelsOf sheet), d .same) at (d .ran .is)
 
-  module _ (low : word < 281474976710656) where
-    ends-done : executed ≡ done (storeOf after) (word % 4294967296)
-    ends-done = sym runs-as ∙ end-done word (storeOf after) low
+  module _ (low : word < 9223372036854775808) where
+    ends-done : executed ≡ done (workOf after) (word % 4294967296)
+    ends-done = sym runs-as ∙ end-done word (workOf after) low
 
     pub left-done : word % 4294967296 ≤ fuel
     left-done = units-done _ _ _ _ fuel _ _ ends-done
 
-    pub runs-done : (out : List ℕ) → runFrom sheet store mode fuel out ≡ ended (fieldCount sheet) fuel out (done (storeOf after) (word % 4294967296))
+    pub runs-done : (out : List ℕ) → runFrom sheet store mode fuel out ≡ ended (fieldCount sheet) fuel out (done (workOf after) (word % 4294967296))
     unfolding runFrom
     runs-done out = ap (ended (fieldCount sheet) fuel out) ends-done
 
-  module _ (high : 281474976710656 ≤ word) where
+  module _ (high : 9223372036854775808 ≤ word) where
     ends-stopped : executed ≡ stopOf word
-    ends-stopped = sym runs-as ∙ end-stop word (storeOf after) high
+    ends-stopped = sym runs-as ∙ end-stop word (workOf after) high
 
     pub left-stopped : word % 4294967296 ≤ fuel
     left-stopped =
-        split (eqb (word / 281474976710656) 12)
+        split (eqb (numberIn word) 12)
         (λ e. omega (arith, d .ran .told high .nothing (eqb-true _ _ e)))
         (λ e. units-stopped _ _ _ _ fuel _ _ _ (ends-stopped ∙ other-stop word e))
 

@@ -1,4 +1,5 @@
 // The exported calls, on numbers and byte slices. Each answers one word: number, place and units. `specs/Calls` says what each call does.
+use basis::numbers;
 use sheet::sections;
 ghost use mathlib.Core.Path.{_≡_};
 ghost use Prim.Native.Nat.{ℕ, _%_, _≤_};
@@ -28,47 +29,53 @@ pub extern "C" fn beltuqash_run(
     ensures { λ r. ⌜ (r ≡ wordOf (run (now (sheet .entry)) (now (store .entry)) mode fuel (now (out .entry)) .answer)) × (now (out .exit) ≡ run (now (sheet .entry)) (now (store .entry)) mode fuel (now (out .entry)) .out) ⌝ }
 {
     if (1 < mode) | (1000000 < fuel) {
-        return pack(10, 0, 0);
+        return pack(numbers::MODE_OR_FUEL, 0, 0);
     }
     let number = sheet::verdict::number(sheet::load(sheet));
-    if number != 0 {
+    if number != numbers::DONE {
         return pack(number, 0, 0);
     }
     let fields = sections::fields(sheet).len() / 8;
     if !flow::stores::fits(store, fields) {
-        return pack(8, 0, 0);
+        return pack(numbers::STORE_MISFIT, 0, 0);
     }
     if !flow::stores::marks_right(store, mode, sections::levels(sheet).len() / 2, fields) {
-        return pack(9, 0, 0);
+        return pack(numbers::MARK_WRONG, 0, 0);
     }
     if out.len() < 2 + fields * 5 {
-        return pack(11, 0, 0);
+        return pack(numbers::OUT_SHORT, 0, 0);
     }
     run_from(sheet, store, mode, fuel, out)
 }
 
-// Runs a sheet that passes from a store that fits it, on a copy: only a run that is done writes.
+// Runs a sheet that passes from a store that fits it, on a work store: only a run that is done writes.
 fn run_from(sheet: &[u8], store: &[u8], mode: u32, fuel: u32, out: &mut [u8]) -> u64
     requires { ⌜ Given (now sheet) (now store) mode (now out) ⌝ }
     ensures { λ r. ⌜ (r ≡ wordOf (runFrom (now (sheet .entry)) (now (store .entry)) mode fuel (now (out .entry)) .answer)) × (now (out .exit) ≡ runFrom (now (sheet .entry)) (now (store .entry)) mode fuel (now (out .entry)) .out) ⌝ }
 {
     let rows = sections::levels(sheet);
-    let constants = sections::constants(sheet);
     let nodes = sections::nodes(sheet);
-    let mut work = [0u8; 322];
-    flow::stores::fetch(store, &mut work);
-    let task = flow::marks::first_task(rows, mode, nodes.len() / 8 - 1);
-    let word = flow::commands::run(&rows, &constants, &nodes, &mut work, task, fuel);
+    let fields = sections::fields(sheet).len() / 8;
+    let mut work = [0u64; 64];
+    flow::stores::fetch(store, &mut work, fields);
+    let task = flow::marks::first_task(rows, mode);
+    let word = flow::commands::run(
+        &[rows, sections::constants(sheet), nodes],
+        &mut work,
+        nodes.len() / 8 - 1,
+        task,
+        fuel,
+    );
     if flow::cells::STOP <= word {
         return stopped(word, fuel);
     }
-    flow::stores::deliver(&work, out, sections::fields(sheet).len() / 8);
-    pack(0, 0, fuel - (word % 4294967296) as u32)
+    flow::stores::deliver(&work, out, fields);
+    pack(numbers::DONE, 0, fuel - (word % 4294967296) as u32)
 }
 
 // The word of a run that stops.
 fn stopped(word: u64, fuel: u32) -> u64
-    requires { ⌜ Told word × (word % 4294967296 ≤ fuel) × (281474976710656 ≤ word) ⌝ }
+    requires { ⌜ Told word × (word % 4294967296 ≤ fuel) ⌝ }
     ensures { λ r. ⌜ ((fields : ℕ) (out : List ℕ) → r ≡ wordOf (ended fields fuel out (stopOf word) .answer)) ⌝ }
 {
     pack(

@@ -1,104 +1,95 @@
 -- Words that stand for ends and tests.
 use Prim.Native.Nat.{ℕ, _+_, _*_, _/_, _%_, _≤_, _<_}
 use native.Mathlib.Omega.{arith}
-use mathlib.Core.Path.{_≡_, _∙_}
+use mathlib.Core.Path.{_≡_, ap, _∙_}
 use mathlib.Core.Bool.{Bool, true, false}
 use borrow.Author.Tests.{lt-ltb, le-ltb, ne-eqb}
 use mir.Val.{boolByte}
+use Rattle.value.specs.Values.{isTrue}
 use Rattle.flow.specs.Rules.{Store, End, done, spent, stopped, choose}
 use Rattle.flow.specs.Marks.{Mark}
-use Rattle.flow.specs.Words.{whyOf}
-use Rattle.flow.specs.Tasks.{stopOf, endOf, contextAfter, testOf, Told}
+use Rattle.flow.specs.Words.{valueIn, markIn, placeIn, numberIn, whyOf, Numbered}
+use Rattle.flow.specs.Tasks.{orStop, testOf, stopOf, endOf, Told}
+use Rattle.flow.proofs.Words.{stop-number, stop-place}
 
--- an end below bit 48, and one from there on
+-- an end below bit 63, and one with it
 module _ (w : ℕ) (σ : Store Mark) where
-  pub end-done : w < 281474976710656 → endOf w σ ≡ done σ (w % 4294967296)
+  pub end-done : w < 9223372036854775808 → endOf w σ ≡ done σ (w % 4294967296)
   unfolding endOf
-  end-done h = rw (lt-ltb w 281474976710656 h)
+  end-done h = rw (lt-ltb w 9223372036854775808 h)
 
-  pub end-stop : 281474976710656 ≤ w → endOf w σ ≡ stopOf w
+  pub end-stop : 9223372036854775808 ≤ w → endOf w σ ≡ stopOf w
   unfolding endOf
-  end-stop h = rw (le-ltb w 281474976710656 h)
+  end-stop h = rw (le-ltb w 9223372036854775808 h)
+
+-- the end of a run that has only the fuel left to tell
+pub end-left : (left : ℕ) (σ : Store Mark) → left < 4294967296 → endOf left σ ≡ done σ left
+end-left left σ h =
+    let same : left % 4294967296 ≡ left = omega arith in
+    end-done left σ (omega arith) ∙ ap (done σ) same
+
+-- a word without a stop, and a stop, with the fuel left
+module _ (w left : ℕ) (next : End Mark) where
+  pub or-next : w < 9223372036854775808 → orStop w left next ≡ next
+  unfolding orStop
+  or-next h = rw (lt-ltb w 9223372036854775808 h)
+
+  pub or-stopped : 9223372036854775808 ≤ w → orStop w left next ≡ stopped (whyOf (numberIn w)) (placeIn w) left
+  unfolding orStop
+  or-stopped h = rw (le-ltb w 9223372036854775808 h)
 
 -- a test that stops, and one that goes on to a side
-module _ (w : ℕ) (yes-side no-side : ℕ → ℕ → End Mark) where
-  pub test-stop : 281474976710656 ≤ w → testOf w yes-side no-side ≡ stopOf w
+module _ (w left : ℕ) (yes-side no-side : ℕ → ℕ → End Mark) where
+  pub test-stopped : 9223372036854775808 ≤ w → testOf w left yes-side no-side ≡ stopped (whyOf (numberIn w)) (placeIn w) left
   unfolding testOf
-  test-stop h = rw (le-ltb w 281474976710656 h)
+  test-stopped h = or-stopped w left _ h
 
-  pub test-yes : w < 281474976710656 → w / 4294967296 % 2 ≡ 1 → testOf w yes-side no-side ≡ yes-side (contextAfter w) (w % 4294967296)
+  pub test-side : w < 9223372036854775808
+      → testOf w left yes-side no-side ≡ choose (isTrue (valueIn w)) (λ c. yes-side c left) (λ c. no-side c left) (markIn w)
   unfolding testOf
-  test-yes h bit = rw (lt-ltb w 281474976710656 h, bit)
+  test-side h = or-next w left _ h
 
-  pub test-no : w < 281474976710656 → w / 4294967296 % 2 ≡ 0 → testOf w yes-side no-side ≡ no-side (contextAfter w) (w % 4294967296)
-  unfolding testOf
-  test-no h bit = rw (lt-ltb w 281474976710656 h, bit)
+  pub test-yes : w < 9223372036854775808 → isTrue (valueIn w) ≡ true → testOf w left yes-side no-side ≡ yes-side (markIn w) left
+  unfolding choose
+  test-yes h holds = test-side h ∙ rw holds
 
--- by the bit that says whether it holds
-test-side : (w : ℕ) (yes-side no-side : ℕ → ℕ → End Mark) (b : Bool) → w < 281474976710656 → w / 4294967296 % 2 ≡ boolByte b
-    → testOf w yes-side no-side ≡ choose b (λ c. yes-side c (w % 4294967296)) (λ c. no-side c (w % 4294967296)) (contextAfter w)
-unfolding choose
-test-side w yes-side no-side true = test-yes w yes-side no-side
-test-side w yes-side no-side false = test-no w yes-side no-side
+  pub test-no : w < 9223372036854775808 → isTrue (valueIn w) ≡ false → testOf w left yes-side no-side ≡ no-side (markIn w) left
+  unfolding choose
+  test-no h fails = test-side h ∙ rw fails
 
--- the word of a run without fuel
-pub stop-spent : (r place : ℕ) → r ≡ place * 4294967296 + 12 * 281474976710656 → place < 65536 → (281474976710656 ≤ r) × (stopOf r ≡ spent place)
-unfolding stopOf
-stop-spent r place e h =
-    let number : r / 281474976710656 ≡ 12 = omega arith in
-    let upper : r / 4294967296 ≡ place + 12 * 65536 = omega arith in
-    let lower : (place + 12 * 65536) % 65536 ≡ place = omega arith in
-    (omega arith, rw (number, upper, lower))
-
-pub told-spent : (r place : ℕ) → r ≡ place * 4294967296 + 12 * 281474976710656 → place < 65536 → Told r
-told-spent r place e h = record { least = omega arith; most = omega arith; nothing = λ _. omega arith }
-
--- a stop's word with the fuel left
-number-handed : (r word : ℕ) → r / 4294967296 ≡ word / 4294967296 → r / 281474976710656 ≡ word / 281474976710656
-number-handed r word upper =
-    let of-r : r / 281474976710656 ≡ r / 4294967296 / 65536 = omega arith in
-    let of-word : word / 281474976710656 ≡ word / 4294967296 / 65536 = omega arith in
-    omega arith
-
-pub told-handed : (r word : ℕ) → r / 4294967296 ≡ word / 4294967296 → 12 < word / 281474976710656 → word / 281474976710656 ≤ 16 → Told r
-told-handed r word upper h k =
-    let number = number-handed r word upper in
-    record { least = omega arith; most = omega arith; nothing = λ twelve. absurd (omega arith) }
-
-pub stop-handed : (r word left : ℕ) → r / 4294967296 ≡ word / 4294967296 → r % 4294967296 ≡ left → 281474976710656 ≤ word
-    → (word / 281474976710656 ≡ 12 → ⊥) → stopOf r ≡ stopped (whyOf (word / 281474976710656)) (word / 4294967296 % 65536) left
-unfolding stopOf
-stop-handed r word left upper lower large other =
-    rw (number-handed r word upper, ne-eqb _ _ other, upper, lower)
-
--- the same of a stop just made
-pub stop-made : (r word number place left : ℕ) → word ≡ place * 4294967296 + number * 281474976710656 → place < 65536 → 12 < number
-    → r / 4294967296 ≡ word / 4294967296 → r % 4294967296 ≡ left → stopOf r ≡ stopped (whyOf number) place left
-stop-made r word number place left e h k upper lower =
-    let is : word / 281474976710656 ≡ number = omega arith in
-    let above : word / 4294967296 ≡ place + number * 65536 = omega arith in
-    let there : (place + number * 65536) % 65536 ≡ place = omega arith in
-    stop-handed r word left upper lower (omega arith) (λ twelve. omega arith) ∙ rw (is, above, there)
-
--- the word of a test that goes on: the fuel left, whether it holds, the context
+-- whether a test holds, as a number
 pub bit-few : (b : Bool) → boolByte b ≤ 1
 bit-few true = omega arith
 bit-few false = omega arith
 
-module _ (w left context : ℕ) (b : Bool) (e : w ≡ left + boolByte b * 4294967296 + context * 8589934592) (h : left < 4294967296) (k : context < 16) where
-  pub made-small : w < 281474976710656
-  made-small = omega (arith, bit-few b)
+-- the word of a run without fuel
+module _ (r place : ℕ) (e : r ≡ place * 4294967296 + 12 * 281474976710656 + 9223372036854775808) (few : place < 65536) where
+  pub stop-spent : stopOf r ≡ spent place
+  unfolding stopOf
+  stop-spent = rw (stop-number r 12 place e few (omega arith), stop-place r 12 place e few (omega arith))
 
-  pub made-left : w % 4294967296 ≡ left
-  made-left = omega (arith, bit-few b)
+  pub told-spent : Told r
+  told-spent =
+      let number = stop-number r 12 place e few (omega arith) in
+      record { least = omega arith; most = omega arith; nothing = λ _. omega arith }
 
-  pub made-context : contextAfter w ≡ context
-  made-context = omega (arith, bit-few b)
+-- a stop's word with the fuel left
+module _ (r word left : ℕ) (upper : r / 4294967296 ≡ word / 4294967296) (lower : r % 4294967296 ≡ left) (large : 9223372036854775808 ≤ word) (numbered : Numbered word) where
+  number-handed : numberIn r ≡ numberIn word
+  number-handed =
+      let of-r : r / 281474976710656 ≡ r / 4294967296 / 65536 = omega arith in
+      let of-word : word / 281474976710656 ≡ word / 4294967296 / 65536 = omega arith in
+      let same : r / 281474976710656 ≡ word / 281474976710656 = omega arith in
+      ap (λ (k : ℕ). k % 256) same
 
-  made-bit : w / 4294967296 % 2 ≡ boolByte b
-  made-bit =
-      let upper : w / 4294967296 ≡ boolByte b + context * 2 = omega arith in
-      omega (arith, bit-few b)
+  pub stop-handed : stopOf r ≡ stopped (whyOf (numberIn word)) (placeIn word) left
+  unfolding stopOf
+  stop-handed =
+      let least = numbered large .0 in
+      rw (number-handed, ne-eqb (numberIn word) 12 (λ twelve. omega arith), upper, lower)
 
-  pub test-made : (yes-side no-side : ℕ → ℕ → End Mark) → testOf w yes-side no-side ≡ choose b (λ c. yes-side c left) (λ c. no-side c left) context
-  test-made yes-side no-side = test-side w yes-side no-side b made-small made-bit ∙ rw (made-context, made-left)
+  pub told-handed : Told r
+  told-handed =
+      let (least, most) = numbered large in
+      let number = number-handed in
+      record { least = omega arith; most = omega arith; nothing = λ twelve. absurd (omega arith) }

@@ -1,11 +1,15 @@
--- What expressions give, step by step.
-use Prim.Native.Nat.{ℕ, zero, suc, _≤_, _<_}
+-- What expressions give, step by step, and the words that answer for it.
+use Prim.Native.Nat.{ℕ, zero, suc, _/_, _%_, _≤_, _<_}
 use native.Mathlib.Omega.{arith}
-use mathlib.Core.Path.{_≡_, refl, ap, _∙_}
+use mathlib.Core.Path.{_≡_, refl, sym, ap, ap₂, _∙_}
+use mathlib.Core.Bool.{true}
 use mathlib.Core.List.{List}
+use lib.IntN.{ℤ}
+use lib.ListN.{getD}
 use Rattle.value.specs.Values.{operatorOf, notOf}
 use Rattle.value.specs.declared.Value.{Value}
 use Rattle.value.specs.declared.Computed.the-variants.{Is, OutOfRange, DivisorZero}
+use Rattle.levels.specs.Levels.{count}
 use Rattle.levels.specs.Lattice.{Lattice, lattice}
 use Rattle.sheet.specs.Nodes.{In, kindAt, opAt, placeAt, kinds, heldIn, ExpBelow, WellFormed}
 use Rattle.sheet.specs.Trees.{constantAt, expAt}
@@ -13,7 +17,10 @@ use Rattle.sheet.proofs.Trees.{held-there, expAt-constant, expAt-field, expAt-o
 use Rattle.flow.specs.Rules.{Why, outOfRange, divisorZero, Cell, cell, Store, Result, gives, stops, at, andThen, computed}
 use Rattle.flow.specs.Rules.{reading, operated, inverted, sealing, eval}
 use Rattle.flow.specs.Marks.{Mark, whole, Mode, joined, marking}
-use Rattle.flow.specs.Words.{ExpIn}
+use Rattle.flow.specs.Stores.{markOf, markKnown}
+use Rattle.flow.specs.Words.{rowsIn, constantsIn, nodesIn, valueIn, markIn, cellIn, workAt, workOf, placeIn, numberIn, whyOf, ExpIn, Evaluated, Operated}
+use Rattle.flow.proofs.Words.{word-value, known-seen, number-seen, word-stop}
+use Rattle.flow.proofs.Marking.{bot-mark, top-mark}
 
 -- an operator on two values: a value with the joined mark, or a stop at its node
 module _ (𝓛 : Lattice) (mode : Mode) (place op : ℕ) (v w : Value) (m k : Mark) where
@@ -21,9 +28,9 @@ module _ (𝓛 : Lattice) (mode : Mode) (place op : ℕ) (v w : Value) (m k : Ma
   unfolding operated at andThen computed
   operated-is u e = rw e
 
-  pub operated-range : operatorOf op v w ≡ OutOfRange → operated (marking 𝓛 mode) place op (cell v m) (cell w k) ≡ stops outOfRange place
+  pub operated-range : (z : ℤ) → operatorOf op v w ≡ OutOfRange z → operated (marking 𝓛 mode) place op (cell v m) (cell w k) ≡ stops outOfRange place
   unfolding operated at andThen computed
-  operated-range e = rw e
+  operated-range z e = rw e
 
   pub operated-zero : operatorOf op v w ≡ DivisorZero → operated (marking 𝓛 mode) place op (cell v m) (cell w k) ≡ stops divisorZero place
   unfolding operated at andThen computed
@@ -110,8 +117,101 @@ unfolding heldIn kinds
 right-below nodes n i k = held-there nodes n i 2 1 k (omega arith)
 
 -- a lower expression is worked out on the same store
-pub child-in : {rows values s store : List ℕ} {bounds n w : ℕ} → ExpIn rows values s store bounds n → ExpBelow s n w → (w < n) × ExpIn rows values s store bounds w
+pub child-in : {parts : List (List ℕ)} {work : List ℕ} {bounds n w : ℕ} → ExpIn parts work bounds n → ExpBelow (nodesIn parts) n w
+    → (w < n) × ExpIn parts work bounds w
 child-in p below =
     let inside = p .inside in
     let lower = below .lower in
     (lower, record { ready = p .ready; inside = omega arith; sort = below .sort })
+
+-- ── the word that answers for a node ────────────────────────────────────────────────────────
+
+-- a word made of a value and a mark
+abbrev Seen : ℕ → Value → ℕ → Type 0
+Seen r v mark = (cellIn r ≡ cell v (markOf mark)) × (r / 4294967296 ≡ mark) × (r < 9223372036854775808)
+
+module _ {parts : List (List ℕ)} {work : List ℕ} {bounds n : ℕ} (p : ExpIn parts work bounds n) where
+  abbrev kind : ℕ
+  kind = kindAt (nodesIn parts) n
+
+  abbrev child : ℕ → ℕ
+  child k = placeAt (nodesIn parts) n k
+
+  abbrev result : Mode → ℕ → Result (Cell Mark)
+  result mode w = eval (marking (lattice (rowsIn parts)) mode) (expAt (constantsIn parts) (nodesIn parts) w) (workOf work)
+
+  -- the word of a value
+  seen-word : (r : ℕ) (v : Value) (mark : ℕ) → Seen r v mark → markKnown (count (rowsIn parts)) mark ≡ true
+      → ((mode : Mode) → result mode n ≡ gives (cell v (markOf mark))) → Evaluated parts work n r
+  seen-word r v mark made known e = record {
+    is = λ mode. word-value r (made .2) ∙ ap gives (made .0) ∙ sym (e mode);
+    known = known-seen (rowsIn parts) r mark (made .1) known;
+    number = number-seen r (made .2);
+  }
+
+  -- what the expression gives that a word answers for
+  value-given : {w r : ℕ} → Evaluated parts work w r → r < 9223372036854775808 → (mode : Mode) → result mode w ≡ gives (cellIn r)
+  value-given {w} {r} e h mode = sym (e .is mode) ∙ word-value r h
+
+  stop-given : {w r : ℕ} → Evaluated parts work w r → 9223372036854775808 ≤ r → (mode : Mode) → result mode w ≡ stops (whyOf (numberIn r)) (placeIn r)
+  stop-given {w} {r} e h mode = sym (e .is mode) ∙ word-stop r h
+
+  -- a constant is whole BOT, a field's word is the store's
+  pub constant-word : (r a : ℕ) (v : Value) → kind ≡ 0 → a ≡ child 0 → v ≡ constantAt (constantsIn parts) a → Seen r v (bounds % 16) → Evaluated parts work n r
+  constant-word r a v k is value made =
+      let bot = bot-mark _ (p .ready .order) _ (p .ready .bounded) in
+      let there = value ∙ ap (constantAt (constantsIn parts)) is in
+      seen-word r v (bounds % 16) made (bot .1) λ mode.
+      eval-constant _ mode _ (p .ready .formed) _ (p .inside) _ k ∙ sym (ap₂ (λ (v : Value) (m : Mark). gives (cell v m)) there (bot .0))
+
+  pub field-word : (a : ℕ) → kind ≡ 1 → a ≡ child 0 → Evaluated parts work n (getD work a 0) × (getD work a 0 < 9223372036854775808)
+  unfolding workAt
+  field-word a k is =
+      let word = p .ready .words _ (held-field (p .ready .formed) _ (p .inside) k) in
+      rw is (
+        record {
+          is = λ mode. word-value _ (word .value) ∙ sym (eval-field _ mode _ (p .ready .formed) _ (p .inside) _ k);
+          known = λ small. word .mark;
+          number = number-seen _ (word .value);
+        },
+        word .value,
+      )
+
+  -- a stop is handed on
+  pub left-stop-word : (r : ℕ) → 2 ≤ kind → Evaluated parts work (child 0) r → 9223372036854775808 ≤ r → Evaluated parts work n r
+  left-stop-word r k left large = record {
+    is = λ mode. word-stop r large ∙ sym (left-stops _ mode _ (p .ready .formed) _ (p .inside) _ _ _ k (p .sort) (stop-given left large mode));
+    known = λ small. absurd (omega arith);
+    number = left .number;
+  }
+
+  module _ (l : ℕ) (left : Evaluated parts work (child 0) l) (small : l < 9223372036854775808) where
+    pub not-word : (r : ℕ) (v : Value) (mark : ℕ) → kind ≡ 3 → v ≡ notOf (valueIn l) → mark ≡ markIn l → Seen r v mark → Evaluated parts work n r
+    not-word r v mark k value is made =
+        seen-word r v mark made (rw is (left .known small)) λ mode.
+        not-gives _ mode _ (p .ready .formed) _ (p .inside) _ _ _ (value-given left small mode) k
+        ∙ sym (ap₂ (λ (v : Value) (m : ℕ). gives (cell v (markOf m))) value is)
+
+    pub seal-word : (r : ℕ) (v : Value) → kind ≡ 4 → v ≡ valueIn l → Seen r v (bounds / 16 % 16) → Evaluated parts work n r
+    seal-word r v k value made =
+        let top = top-mark _ (p .ready .order) _ (p .ready .bounded) in
+        seen-word r v (bounds / 16 % 16) made (top .1) λ mode.
+        seal-gives _ mode _ (p .ready .formed) _ (p .inside) _ _ _ (value-given left small mode) k
+        ∙ sym (ap₂ (λ (v : Value) (m : Mark). gives (cell v m)) value (top .0))
+
+    module _ (k : kind ≡ 2) (r : ℕ) (right : Evaluated parts work (child 1) r) where
+      pub right-stop-word : 9223372036854775808 ≤ r → Evaluated parts work n r
+      right-stop-word large = record {
+        is = λ mode. word-stop r large
+            ∙ sym (right-stops _ mode _ (p .ready .formed) _ (p .inside) _ _ _ (value-given left small mode) _ _ k (stop-given right large mode));
+        known = λ small-r. absurd (omega arith);
+        number = right .number;
+      }
+
+      pub operator-word : r < 9223372036854775808 → (word : ℕ) → Operated parts n l r word → Evaluated parts work n word
+      operator-word h word operated = record {
+        is = λ mode. operated .is mode
+            ∙ sym (both-give _ mode _ (p .ready .formed) _ (p .inside) _ _ _ (value-given left small mode) _ _ k (value-given right h mode));
+        known = operated .known;
+        number = operated .number;
+      }

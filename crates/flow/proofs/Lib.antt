@@ -1,5 +1,6 @@
--- What the functions' proofs share: words that answer, marks and stores as bytes, what expressions give, what runs leave, what commands do,
--- and where runs stop.
+-- What the functions' proofs share: the parts of a sheet, words that answer, marks and stores as bytes, what expressions give, what runs leave,
+-- what commands do, and where runs stop.
+pub mod Sections
 pub mod Words
 pub mod Marking
 pub mod Entries

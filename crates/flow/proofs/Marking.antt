@@ -8,14 +8,14 @@ use borrow.Author.Tests.{lt-ltb, le-ltb, ltb-true, ltb-false, leb-true, le-leb, 
 use lib.Dec.{ltb}
 use Rattle.basis.proofs.Tests.{both, and-of, split}
 use Rattle.levels.specs.Levels.{count, below, right, joinOf, meetOf, lowestOf, highestOf}
-use Rattle.levels.specs.Lattice.{lattice}
-use Rattle.levels.proofs.Laws.{le-at, join-at, meet-at}
+use Rattle.levels.specs.Lattice.{Lattice, lattice}
+use Rattle.levels.proofs.Joins.{join-idem}
+use Rattle.levels.proofs.Laws.{laws, le-at, join-at, meet-at}
 use Rattle.levels.proofs.Facts.{facts}
 use Rattle.levels.proofs.Bounds.{lowest-is, highest-is}
-use Rattle.flow.specs.Rules.{notBelow, fine, fails}
-use Rattle.flow.specs.Marks.{whole, partial, strict, permissive, modeOf, levelOf, joined, stored}
+use Rattle.flow.specs.Rules.{notBelow, Try, fine, fails}
+use Rattle.flow.specs.Marks.{Mark, whole, partial, strict, permissive, modeOf, levelOf, joined, stored}
 use Rattle.flow.specs.Stores.{markOf, markKnown}
-use Rattle.flow.specs.Tasks.{contextIn, tryOf, Stored}
 
 -- a known mark is at most 31 and has a level
 pub known-is : (levels byte : ℕ) → markKnown levels byte ≡ true → (byte ≤ 31) × (byte % 16 < levels)
@@ -33,6 +33,23 @@ mark-whole byte h = rw (lt-ltb byte 16 h)
 pub mark-partial : (byte : ℕ) → 16 ≤ byte → markOf byte ≡ partial (byte - 16)
 unfolding markOf
 mark-partial byte h = rw (le-ltb byte 16 h)
+
+-- the level of a known mark
+level-is : (levels byte : ℕ) → markKnown levels byte ≡ true → levelOf (markOf byte) ≡ byte % 16
+level-is levels byte h =
+    let few = known-is levels byte h .0 in
+    split (ltb byte 16)
+    (λ low. ap levelOf (mark-whole byte (ltb-true byte 16 low)) ∙ omega (arith, ltb-true byte 16 low))
+    (λ high. ap levelOf (mark-partial byte (ltb-false byte 16 high)) ∙ omega (arith, ltb-false byte 16 high))
+
+-- a known mark joined with itself is itself
+mark-idem : (rows : List ℕ) → right rows ≡ true → (m : Mark) → levelOf m < count rows → joined (lattice rows) m m ≡ m
+unfolding joined lattice
+mark-idem rows h (whole a) level = ap whole (join-idem (lattice rows) (laws rows h) a level)
+mark-idem rows h (partial a) level = ap partial (join-idem (lattice rows) (laws rows h) a level)
+
+pub joined-same : (rows : List ℕ) (byte : ℕ) → right rows ≡ true → markKnown (count rows) byte ≡ true → markOf byte ≡ joined (lattice rows) (markOf byte) (markOf byte)
+joined-same rows byte h known = sym (mark-idem rows h (markOf byte) (rw (level-is _ byte known) (known-is _ byte known .1)))
 
 -- the join of two known marks
 module _ (rows : List ℕ) (m k : ℕ) (known-m : markKnown (count rows) m ≡ true) (known-k : markKnown (count rows) k ≡ true) where
@@ -87,22 +104,6 @@ module _ (rows : List ℕ) (h : right rows ≡ true) (bounds : ℕ) (e : bounds 
 
 -- ── what an assignment leaves ───────────────────────────────────────────────────────────────
 
--- the level of a known mark
-level-is : (levels byte : ℕ) → markKnown levels byte ≡ true → levelOf (markOf byte) ≡ byte % 16
-level-is levels byte h =
-    let few = known-is levels byte h .0 in
-    split (ltb byte 16)
-    (λ low. ap levelOf (mark-whole byte (ltb-true byte 16 low)) ∙ omega (arith, ltb-true byte 16 low))
-    (λ high. ap levelOf (mark-partial byte (ltb-false byte 16 high)) ∙ omega (arith, ltb-false byte 16 high))
-
-pub try-fine : (byte : ℕ) → byte < 32 → tryOf byte ≡ fine (markOf byte)
-unfolding tryOf
-try-fine byte h = rw (lt-ltb byte 32 h)
-
-pub try-fails : (byte : ℕ) → 32 ≤ byte → tryOf byte ≡ fails notBelow
-unfolding tryOf
-try-fails byte h = rw (le-ltb byte 32 h)
-
 mode-strict : (number : ℕ) → number ≡ 0 → modeOf number ≡ strict
 unfolding modeOf
 mode-strict number e = rw e
@@ -111,34 +112,32 @@ mode-permissive : (number : ℕ) → (number ≡ 0 → ⊥) → modeOf number �
 unfolding modeOf
 mode-permissive number n = rw (ne-eqb number 0 n)
 
+-- on a field of level A
+module _ (𝓛 : Lattice) (number context A : ℕ) (m : Mark) where
+  abbrev leaves : Try Mark
+  leaves = stored 𝓛 (modeOf number) (𝓛 .le context A) context A m
+
+  pub stored-below : 𝓛 .le context A ≡ true → leaves ≡ fine (joined 𝓛 m (whole context))
+  unfolding stored
+  stored-below h = rw h
+
+  pub stored-strict : 𝓛 .le context A ≡ false → number ≡ 0 → leaves ≡ fails notBelow
+  unfolding stored
+  stored-strict h mode = rw (h, mode-strict number mode)
+
+  pub stored-permissive : 𝓛 .le context A ≡ false → (number ≡ 0 → ⊥) → leaves ≡ fine (partial (𝓛 .meet context A))
+  unfolding stored
+  stored-permissive h mode = rw (h, mode-permissive number mode)
+
 -- in a context that is a level, on a field with a known mark
-module _ (rows : List ℕ) (task old m : ℕ) (known-old : markKnown (count rows) old ≡ true) (level : contextIn task < count rows) where
-  order-at : lattice rows .le (contextIn task) (levelOf (markOf old)) ≡ below rows (contextIn task) (old % 16)
+module _ (rows : List ℕ) (context old : ℕ) (known-old : markKnown (count rows) old ≡ true) (level : context < count rows) where
+  pub order-at : lattice rows .le context (levelOf (markOf old)) ≡ below rows context (old % 16)
   order-at = rw (level-is _ old known-old) (le-at rows _ _ level (known-is _ old known-old .1))
 
-  pub stored-below : (r : ℕ) → below rows (contextIn task) (old % 16) ≡ true → markOf r ≡ joined (lattice rows) (markOf m) (whole (contextIn task)) → markKnown (count rows) r ≡ true
-      → Stored rows task old m r
-  unfolding stored
-  stored-below r h is known = record {
-    is = let few = known-is _ r known .0 in try-fine r (omega arith) ∙ ap fine is ∙ rw (order-at, h);
-    known = λ small. known;
-  }
-
-  pub stored-strict : below rows (contextIn task) (old % 16) ≡ false → task % 65536 / 256 ≡ 0 → Stored rows task old m 32
-  unfolding stored
-  stored-strict h mode = record {
-    is = try-fails 32 (omega arith) ∙ rw (order-at, h, mode-strict _ mode);
-    known = λ small. absurd (omega arith);
-  }
-
-  pub stored-permissive : (r : ℕ) → below rows (contextIn task) (old % 16) ≡ false → (task % 65536 / 256 ≡ 0 → ⊥) → r ≡ meetOf rows (contextIn task) (old % 16) → r < 16 → r < count rows
-      → Stored rows task old m (r + 16)
-  unfolding stored
-  stored-permissive r h mode is few inside =
+  pub meet-mark : (r : ℕ) → r ≡ meetOf rows context (old % 16) → r < 16 → markOf (r + 16) ≡ partial (lattice rows .meet context (levelOf (markOf old)))
+  meet-mark r is few =
       let back : r + 16 - 16 ≡ r = omega arith in
-      let lower : (r + 16) % 16 ≡ r = omega arith in
-      let meet : lattice rows .meet (contextIn task) (levelOf (markOf old)) ≡ meetOf rows (contextIn task) (old % 16) = rw (level-is _ old known-old) (meet-at rows (contextIn task) (old % 16) level (known-is _ old known-old .1)) in
-      record {
-        is = try-fine (r + 16) (omega arith) ∙ ap fine (mark-partial (r + 16) (omega arith) ∙ ap partial (back ∙ is ∙ sym meet)) ∙ rw (order-at, h, mode-permissive _ mode);
-        known = λ small. known-of _ _ (omega arith) (rw lower inside);
-      }
+      mark-partial (r + 16) (omega arith) ∙ ap partial (back ∙ is ∙ sym (rw (level-is _ old known-old) (meet-at rows _ _ level (known-is _ old known-old .1))))
+
+pub known-partial : (levels r : ℕ) → r < 16 → r < levels → markKnown levels (r + 16) ≡ true
+known-partial levels r few inside = let lower : (r + 16) % 16 ≡ r = omega arith in known-of _ _ (omega arith) (rw lower inside)

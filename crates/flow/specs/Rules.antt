@@ -95,7 +95,7 @@ module _ {A : Type 0} where
 -- an operator's result, or why there is none
 unfoldable pub computed : Computed → Try Value
 computed (Is v) = fine v
-computed OutOfRange = fails outOfRange
+computed (OutOfRange z) = fails outOfRange
 computed DivisorZero = fails divisorZero
 
 -- ── the rules ───────────────────────────────────────────────────────────────────────────────

@@ -4,16 +4,17 @@ use mathlib.Core.Path.{_≡_}
 use mathlib.Core.Bool.{true, cond}
 use mathlib.Core.List.{List}
 use lib.Dec.{eqb, ltb}
-use Rattle.levels.specs.Levels.{count, lowestOf, highestOf}
+use Rattle.value.specs.Values.{isTrue}
+use Rattle.levels.specs.Levels.{count, right, lowestOf, highestOf}
 use Rattle.levels.specs.Lattice.{lattice}
 use Rattle.sheet.specs.Nodes.{In, kindAt, placeAt}
 use Rattle.sheet.specs.Trees.{expAt, cmdAt}
-use Rattle.flow.specs.Rules.{notBelow, Try, fine, fails, Store, End, done, spent, stopped, tested, exec}
-use Rattle.flow.specs.Marks.{Mark, Mode, modeOf, levelOf, stored, marking}
-use Rattle.flow.specs.Stores.{markOf, markKnown, storeOf}
-use Rattle.flow.specs.Words.{whyOf, Ready}
+use Rattle.flow.specs.Rules.{Store, End, done, spent, stopped, choose, tested, exec}
+use Rattle.flow.specs.Marks.{Mark, Mode, modeOf, marking}
+use Rattle.flow.specs.Stores.{markKnown}
+use Rattle.flow.specs.Words.{rowsIn, constantsIn, nodesIn, valueIn, markIn, placeIn, numberIn, workOf, whyOf, Numbered, Ready}
 
--- a command to do: bits 0 to 7 BOT and, 16 times, TOP; from bit 8 the mode; from bit 16 the context; from bit 32 the node
+-- a task: bits 0 to 7 BOT and, 16 times, TOP; from bit 8 the mode; from bit 16 the context
 abbrev pub boundsIn : ℕ → ℕ
 boundsIn task = task % 65536 % 256
 
@@ -21,74 +22,68 @@ abbrev pub modeIn : ℕ → Mode
 modeIn task = modeOf (task % 65536 / 256)
 
 abbrev pub contextIn : ℕ → ℕ
-contextIn task = task / 65536 % 65536
-
-abbrev pub nodeIn : ℕ → ℕ
-nodeIn task = task / 4294967296
+contextIn task = task / 65536
 
 -- the bounds and the mode are those of the same run
 abbrev pub SameRun : ℕ → ℕ → Type 0
 SameRun task r = r % 65536 ≡ task % 65536
 
--- the task of a run's first command
-pub record First (rows : List ℕ) (mode n task : ℕ) : Type 0 where
+-- the task that a run starts with
+pub record First (rows : List ℕ) (mode task : ℕ) : Type 0 where
   pub bounds : boundsIn task ≡ lowestOf rows + highestOf rows * 16
   pub mode-is : modeIn task ≡ modeOf mode
   pub context : contextIn task ≡ lowestOf rows
-  pub node : nodeIn task ≡ n
 
--- from bit 48 on a number; then the place and the fuel left
+-- right rows, a known mark, and a context that is a level
+pub record InContext (rows : List ℕ) (task m : ℕ) : Type 0 where
+  pub order : right rows ≡ true
+  pub mark : markKnown (count rows) m ≡ true
+  pub context : contextIn task < count rows
+
+-- a stop, with the fuel left; else how the run goes on
+unfoldable pub orStop : ℕ → ℕ → End Mark → End Mark
+orStop word left next = cond (ltb word 9223372036854775808) next (stopped (whyOf (numberIn word)) (placeIn word) left)
+
+-- a test's value, with the joined context in the mark's place
+unfoldable pub testOf : ℕ → ℕ → (ℕ → ℕ → End Mark) → (ℕ → ℕ → End Mark) → End Mark
+testOf word left yes-side no-side = orStop word left (choose (isTrue (valueIn word)) (λ c. yes-side c left) (λ c. no-side c left) (markIn word))
+
+-- a run that is done has the fuel left; one that stops has it in bits 0 to 31
 unfoldable pub stopOf : ℕ → End Mark
-stopOf word =
-    cond (eqb (word / 281474976710656) 12) (spent (word / 4294967296 % 65536))
-    (stopped (whyOf (word / 281474976710656)) (word / 4294967296 % 65536) (word % 4294967296))
+stopOf word = cond (eqb (numberIn word) 12) (spent (placeIn word)) (stopped (whyOf (numberIn word)) (placeIn word) (word % 4294967296))
 
--- below bit 48 the fuel left
 unfoldable pub endOf : ℕ → Store Mark → End Mark
-endOf word σ = cond (ltb word 281474976710656) (done σ (word % 4294967296)) (stopOf word)
-
--- a test: the fuel left, in bit 32 whether it holds, from bit 33 the context
-abbrev pub contextAfter : ℕ → ℕ
-contextAfter word = word / 8589934592
-
-unfoldable pub testOf : ℕ → (ℕ → ℕ → End Mark) → (ℕ → ℕ → End Mark) → End Mark
-testOf word yes-side no-side =
-    cond (ltb word 281474976710656)
-    (cond (eqb (word / 4294967296 % 2) 1) (yes-side (contextAfter word) (word % 4294967296)) (no-side (contextAfter word) (word % 4294967296)))
-    (stopOf word)
+endOf word σ = cond (ltb word 9223372036854775808) (done σ (word % 4294967296)) (stopOf word)
 
 -- a stop has a number from 12 to 16, and with 12 nothing is left
 pub record Told (word : ℕ) : Type 0 where
-  pub least : 12 ≤ word / 281474976710656
-  pub most : word / 281474976710656 ≤ 16
-  pub nothing : word / 281474976710656 ≡ 12 → word % 4294967296 ≡ 0
+  pub least : 12 ≤ numberIn word
+  pub most : numberIn word ≤ 16
+  pub nothing : numberIn word ≡ 12 → word % 4294967296 ≡ 0
 
--- a mark byte, or 32: the context does not lie at or below
-unfoldable pub tryOf : ℕ → Try Mark
-tryOf byte = cond (ltb byte 32) (fine (markOf byte)) (fails notBelow)
+-- node n is a command, and the task's context a level
+pub record CmdIn (parts : List (List ℕ)) (work : List ℕ) (n task : ℕ) : Type 0 where
+  pub ready : Ready parts work (boundsIn task)
+  pub inside : In (nodesIn parts) n
+  pub sort : 5 ≤ kindAt (nodesIn parts) n
+  pub context : contextIn task < count (rowsIn parts)
 
--- the byte r has the mark that an assignment leaves
-pub record Stored (rows : List ℕ) (task old m r : ℕ) : Type 0 where
-  pub is : tryOf r ≡ stored (lattice rows) (modeIn task) (lattice rows .le (contextIn task) (levelOf (markOf old))) (contextIn task) (levelOf (markOf old)) (markOf m)
-  pub known : r < 32 → markKnown (count rows) r ≡ true
+-- the word r has what the test of node n comes to, once its unit is spent
+pub record Tested (parts : List (List ℕ)) (work : List ℕ) (n task r : ℕ) : Type 0 where
+  pub is : (left : ℕ) (yes-side no-side : ℕ → ℕ → End Mark) → testOf r left yes-side no-side
+      ≡ tested (marking (lattice (rowsIn parts)) (modeIn task)) n (expAt (constantsIn parts) (nodesIn parts) (placeAt (nodesIn parts) n 0)) (contextIn task) (workOf work) (suc left) yes-side no-side
+  pub context : r < 9223372036854775808 → markIn r < count (rowsIn parts)
+  pub number : Numbered r
 
--- the task's node is a command, its context a level
-pub record CmdIn (rows constants nodes store : List ℕ) (task : ℕ) : Type 0 where
-  pub ready : Ready rows constants nodes store (boundsIn task)
-  pub inside : In nodes (nodeIn task)
-  pub sort : 5 ≤ kindAt nodes (nodeIn task)
-  pub context : contextIn task < count rows
+-- the word r and the work store have what the assignment at node n comes to, once its unit is spent
+pub record Assigned (parts : List (List ℕ)) (work : List ℕ) (n task : ℕ) (after : List ℕ) (r : ℕ) : Type 0 where
+  pub is : (left : ℕ) → orStop r left (done (workOf after) left)
+      ≡ exec (marking (lattice (rowsIn parts)) (modeIn task)) (cmdAt (constantsIn parts) (nodesIn parts) n) (contextIn task) (workOf work) (suc left)
+  pub ready : Ready parts after (boundsIn task)
+  pub number : Numbered r
 
--- the word r has what the test of the task's node comes to
-pub record Tested (rows constants nodes store : List ℕ) (task fuel r : ℕ) : Type 0 where
-  pub is : (yes-side no-side : ℕ → ℕ → End Mark) → testOf r yes-side no-side
-      ≡ tested (marking (lattice rows) (modeIn task)) (nodeIn task) (expAt constants nodes (placeAt nodes (nodeIn task) 0)) (contextIn task) (storeOf store) fuel yes-side no-side
-  pub context : r < 281474976710656 → contextAfter r < count rows
-  pub less : r < 281474976710656 → suc (r % 4294967296) ≡ fuel
-  pub told : 281474976710656 ≤ r → Told r
-
--- the word r and the store have what the task comes to
-pub record Ran (rows constants nodes store : List ℕ) (task fuel : ℕ) (after : List ℕ) (r : ℕ) : Type 0 where
-  pub is : endOf r (storeOf after) ≡ exec (marking (lattice rows) (modeIn task)) (cmdAt constants nodes (nodeIn task)) (contextIn task) (storeOf store) fuel
-  pub ready : Ready rows constants nodes after (boundsIn task)
-  pub told : 281474976710656 ≤ r → Told r
+-- the word r and the work store have what the command at node n comes to
+pub record Ran (parts : List (List ℕ)) (work : List ℕ) (n task fuel : ℕ) (after : List ℕ) (r : ℕ) : Type 0 where
+  pub is : endOf r (workOf after) ≡ exec (marking (lattice (rowsIn parts)) (modeIn task)) (cmdAt (constantsIn parts) (nodesIn parts) n) (contextIn task) (workOf work) fuel
+  pub ready : Ready parts after (boundsIn task)
+  pub told : 9223372036854775808 ≤ r → Told r

@@ -1,51 +1,68 @@
-// What an expression gives, by recursion on the node number. The sections come behind references to slices and the store behind one to an array,
-// each a pointer in a register, and the answer is one number: a frame is a few registers.
+// What an expression gives, by recursion on the node number. The parts of the sheet and the work store come behind a reference each, and the
+// answer is one number: a frame is a few registers. A constant or a field needs no call.
 use crate::cells::STOP;
-use crate::cells::constant_at;
-use crate::cells::field_at;
 use crate::cells::mark_in;
 use crate::cells::operate;
 use crate::cells::seen;
 use crate::cells::value_in;
-use sheet::nodes::kind_of;
-use sheet::nodes::op_of;
-use sheet::nodes::place;
-ghost use Rattle.flow.specs.Words.{ExpIn, Evaluated};
+use crate::parts::constant_in;
+use crate::parts::kind_in;
+use crate::parts::place_in;
+ghost use mathlib.Core.List.{map};
+ghost use Prim.Native.Nat.{_<_};
+ghost use Rattle.sheet.specs.Nodes.{kindAt};
+ghost use Rattle.flow.specs.Words.{nodesIn, ExpIn, Evaluated};
 
-// The expression at node n. `bounds` has BOT and, 16 times, TOP.
-pub fn eval(
-    rows: &&[u8],
-    constants: &&[u8],
-    nodes: &&[u8],
-    store: &[u8; 322],
-    n: usize,
-    bounds: u32,
-) -> u64
-    requires { ⌜ ExpIn (now (now rows)) (now (now constants)) (now (now nodes)) (now store) bounds n ⌝ }
-    ensures { λ r. ⌜ Evaluated (now (now (rows .entry))) (now (now (constants .entry))) (now (now (nodes .entry))) (now (store .entry)) n r ⌝ }
+// The constant or the field at node n. `bounds` has BOT and, 16 times, TOP.
+fn leaf(parts: &[&[u8]; 3], work: &[u64; 64], n: usize, bounds: u32) -> u64
+    requires { ⌜ ExpIn (map now (now parts)) (now work) bounds n × (kindAt (nodesIn (map now (now parts))) n < 2) ⌝ }
+    ensures { λ r. ⌜ Evaluated (map now (now (parts .entry))) (now (work .entry)) n r × (r < 9223372036854775808) ⌝ }
 {
-    let kind = kind_of(*nodes, n);
-    let a = place(*nodes, n, 0);
-    if kind == 0 {
-        return seen(constant_at(*constants, a), (bounds % 16) as u8);
+    let a = place_in(parts, n, 0);
+    if kind_in(parts, n) == 1 {
+        return work[a];
     }
-    if kind == 1 {
-        return field_at(store, a);
+    seen(constant_in(parts, a), (bounds % 16) as u8)
+}
+
+// The expression at node n.
+pub fn eval(parts: &[&[u8]; 3], work: &[u64; 64], n: usize, bounds: u32) -> u64
+    requires { ⌜ ExpIn (map now (now parts)) (now work) bounds n ⌝ }
+    ensures { λ r. ⌜ Evaluated (map now (now (parts .entry))) (now (work .entry)) n r ⌝ }
+{
+    let kind = kind_in(parts, n);
+    let a = place_in(parts, n, 0);
+    if kind == 2 {
+        let left = if kind_in(parts, a) < 2 {
+            leaf(parts, work, a, bounds)
+        } else {
+            let x = eval(parts, work, a, bounds);
+            if STOP <= x {
+                return x;
+            }
+            x
+        };
+        let b = place_in(parts, n, 1);
+        let right = if kind_in(parts, b) < 2 {
+            leaf(parts, work, b, bounds)
+        } else {
+            let y = eval(parts, work, b, bounds);
+            if STOP <= y {
+                return y;
+            }
+            y
+        };
+        return operate(parts, n, left, right);
     }
-    let left = eval(rows, constants, nodes, store, a, bounds);
-    if STOP <= left {
-        return left;
+    if kind < 2 {
+        return leaf(parts, work, n, bounds);
+    }
+    let z = eval(parts, work, a, bounds);
+    if STOP <= z {
+        return z;
     }
     if kind == 3 {
-        return seen(value_in(left).not(), mark_in(left));
+        return seen(value_in(z).not(), mark_in(z));
     }
-    if kind == 4 {
-        return seen(value_in(left), (bounds / 16 % 16) as u8);
-    }
-    let b = place(*nodes, n, 1);
-    let right = eval(rows, constants, nodes, store, b, bounds);
-    if STOP <= right {
-        return right;
-    }
-    operate(*rows, op_of(*nodes, n), n, left, right)
+    seen(value_in(z), (bounds / 16 % 16) as u8)
 }

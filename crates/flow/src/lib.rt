@@ -1,6 +1,7 @@
-// Runs: what an expression gives and what a command does, over the sheet's nodes and a store in its own byte layout.
+// Runs: what an expression gives and what a command does, over the sheet's nodes and a work store with a word for each field.
 pub mod cells;
 pub mod commands;
 pub mod eval;
 pub mod marks;
+pub mod parts;
 pub mod stores;

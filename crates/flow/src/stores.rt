@@ -1,16 +1,17 @@
 // Stores in their byte layout: a count, then per field one mark byte and a signed 4-byte value. Whether a store fits the sheet and its
-// marks are right, a copy to work on, one field's entry written, and the copy handed out.
-use crate::cells::field_at;
+// marks are right, a work store filled from it, and a work store written out again.
 use crate::cells::mark_in;
+use crate::cells::seen;
 use crate::cells::value_in;
+use value::Value;
 ghost use mathlib.Core.Path.{_≡_};
 ghost use mathlib.Core.List.{_++_};
 ghost use Prim.Native.Nat.{_+_, _≤_, _<_};
 ghost use lib.ListN.{length, replicate, drop};
 ghost use lib.Seq.{sets};
-ghost use Rattle.flow.specs.Stores.{storeLength, storeOf, storeBytes, storeFits, markTaken, marksRight};
+ghost use Rattle.flow.specs.Stores.{entryAt, storeLength, cellAt, storeBytes, storeFits, markTaken, marksRight};
 ghost use Rattle.flow.specs.Marks.{modeOf};
-ghost use Rattle.flow.specs.Words.{wordBytes, Put};
+ghost use Rattle.flow.specs.Words.{cellIn, wordBytes, workOf, Fetched};
 
 // Whether a store's length and count are those of so many fields.
 pub fn fits(store: &[u8], fields: usize) -> bool
@@ -50,14 +51,26 @@ pub fn marks_right(store: &[u8], mode: u32, levels: usize, fields: usize) -> boo
     true
 }
 
-// Copies a store to the front of a work store.
-pub fn fetch(store: &[u8], work: &mut [u8; 322])
-    requires { ⌜ (length (now store) ≤ 322) × (now work ≡ replicate 322 0) ⌝ }
-    ensures { λ _. ⌜ (storeOf (now (work .exit)) ≡ storeOf (now (store .entry))) × (length (now (work .exit)) ≡ 322) ⌝ }
+// Field i of a store, its value with its mark.
+fn entry_at(store: &[u8], i: usize) -> u64
+    requires { ⌜ entryAt i + 5 ≤ length (now store) ⌝ }
+    ensures { λ r. ⌜ (cellIn r ≡ cellAt (now (store .entry)) i) × (r < 9223372036854775808) ⌝ }
+{
+    let at = 2 + i * 5;
+    seen(
+        Value::of_bytes(store[at + 1], store[at + 2], store[at + 3], store[at + 4]),
+        store[at],
+    )
+}
+
+// Fills a work store with the fields of a store.
+pub fn fetch(store: &[u8], work: &mut [u64; 64], fields: usize)
+    requires { ⌜ (fields ≤ 64) × (length (now store) ≡ storeLength fields) × (now work ≡ replicate 64 0) ⌝ }
+    ensures { λ _. ⌜ Fetched (now (store .entry)) (now (work .exit)) ⌝ }
 {
     let mut i = 0;
-    while i < store.len() {
-        work[i] = store[i];
+    while i < fields {
+        work[i] = entry_at(store, i);
         i += 1;
     }
 }
@@ -75,24 +88,16 @@ fn put_entry(out: &mut [u8], at: usize, word: u64)
     out[at + 4] = bytes[3];
 }
 
-// Gives field i the value and the mark in a word.
-pub fn put_cell(store: &mut [u8; 322], i: usize, word: u64)
-    requires { ⌜ (i < 64) × (length (now store) ≡ 322) ⌝ }
-    ensures { λ _. ⌜ Put (now (store .entry)) i word (now (store .exit)) ⌝ }
-{
-    put_entry(store, 2 + i * 5, word);
-}
-
 // Writes so many fields of a work store to the front of `out`, as a store.
-pub fn deliver(work: &[u8; 322], out: &mut [u8], fields: usize)
-    requires { ⌜ (fields ≤ 64) × (storeLength fields ≤ length (now out)) × (length (now work) ≡ 322) ⌝ }
-    ensures { λ _. ⌜ now (out .exit) ≡ storeBytes (storeOf (now (work .entry))) fields ++ drop (storeLength fields) (now (out .entry)) ⌝ }
+pub fn deliver(work: &[u64; 64], out: &mut [u8], fields: usize)
+    requires { ⌜ (fields ≤ 64) × (storeLength fields ≤ length (now out)) ⌝ }
+    ensures { λ _. ⌜ now (out .exit) ≡ storeBytes (workOf (now (work .entry))) fields ++ drop (storeLength fields) (now (out .entry)) ⌝ }
 {
     out[0] = (fields % 256) as u8;
     out[1] = 0;
     let mut i = 0;
     while i < fields {
-        put_entry(out, 2 + i * 5, field_at(work, i));
+        put_entry(out, 2 + i * 5, work[i]);
         i += 1;
     }
 }

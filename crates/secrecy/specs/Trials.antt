@@ -44,7 +44,7 @@ a gives c = record { asked = a; came = c }
 
 computed : Computed → Came
 computed (Is v) = value (v .n)
-computed OutOfRange = number (numberOf OutOfRange)
+computed (OutOfRange z) = number (numberOf (OutOfRange z))
 computed DivisorZero = number (numberOf DivisorZero)
 
 markLeft : Try Mark → Came

@@ -20,7 +20,7 @@ greatest = pos 2147483647
 
 -- an exact result outside stops the run.
 unfoldable pub exactly : ℤ → Computed
-exactly z = cond (leZ least z && leZ z greatest) (Is (record { n = z })) OutOfRange
+exactly z = cond (leZ least z && leZ z greatest) (Is (record { n = z })) (OutOfRange z)
 
 abbrev pub sumOf : Value → Value → Computed
 sumOf x y = exactly (x .n +ℤ y .n)
@@ -99,7 +99,7 @@ operatorOf op x y =
 -- 13 result out of range, 14 divisor 0. Success is number 0.
 abbrev pub numberOf : Computed → ℕ
 numberOf (Is x) = 0
-numberOf OutOfRange = 13
+numberOf (OutOfRange z) = 13
 numberOf DivisorZero = 14
 
 -- `unfolding operating` opens all of the above, so that an operator on two numbers computes

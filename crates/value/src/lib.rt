@@ -13,10 +13,10 @@ pub struct Value {
     pub n: i32,
 }
 
-// What an operator gives.
+// What an operator gives: a value, or why there is none. A result out of range is told as the number that it is.
 pub enum Computed {
     Is(Value),
-    OutOfRange,
+    OutOfRange(i64),
     DivisorZero,
 }
 
@@ -95,7 +95,7 @@ impl Value {
             let n = z as i32;
             Computed::Is(Value { n })
         } else {
-            Computed::OutOfRange
+            Computed::OutOfRange(z)
         }
     }
 

@@ -1,150 +1,145 @@
--- Four returns: no fuel, a stop of the expression, a refused mark, the field's new cell.
+-- Three returns: a stop of the expression, a refused mark, the field's new word. Its mark is raised or lowered, as the rules say.
 use borrow.Author.Needs.{needs}
-use Prim.Native.Nat.{suc, _-_, _/_, _<_}
-use native.Mathlib.Omega.{arith}
-use mathlib.Core.Path.{_≡_}
+use Prim.Native.Nat.{_<_}
+use mathlib.Core.Path.{_≡_, sym, ap, _∙_}
+use mathlib.Core.Bool.{true}
+use mathlib.Core.Logic.{⊎-elim}
+use mathlib.Core.List.{map}
 use denote.Ref.{now}
+use lib.ListN.{getD}
+use Rattle.levels.specs.Levels.{count}
+use Rattle.levels.specs.Lattice.{lattice}
 use Rattle.sheet.specs.Nodes.{placeAt}
-use Rattle.flow.specs.Stores.{markAt}
-use Rattle.flow.specs.Words.{markIn, Evaluated}
-use Rattle.flow.specs.Tasks.{nodeIn, Stored}
-use Rattle.flow.proofs.Marking.{known-is}
-use Rattle.flow.proofs.Assigning.{field-there, field-few, source-in, ran-spent, ran-stops, ran-refused, ran-done}
+use Rattle.flow.specs.Rules.{fine}
+use Rattle.flow.specs.Marks.{levelOf}
+use Rattle.flow.specs.Stores.{markOf, markKnown}
+use Rattle.flow.specs.Words.{rowsIn, nodesIn, markIn, Evaluated}
+use Rattle.flow.specs.Tasks.{contextIn, InContext}
+use Rattle.flow.proofs.Marking.{stored-below, stored-strict, stored-permissive}
+use Rattle.flow.proofs.Assigning.{leaves, field-few, field-held, source-in, assigned-stops, assigned-refused, assigned-done}
 use Rattle.flow.proofs.commands.assign.Statement.{statement}
 use Rattle.flow.proofs.commands.assign.Tie as tie
 
--- the unit that is spent
-unit : (c : tie.Else1) → c .before .before .args .fuel ≡ suc (c .before .before .args .fuel - 1)
-unit c = omega (arith, c .if1 .left)
-
-left-few : (c : tie.Else1) → c .before .before .args .fuel - 1 < 4294967296
-left-few c =
-    let few : c .before .before .args .fuel < 4294967296 = c .before .before .fits .fuel .fits in
-    omega arith
-
--- what the node's places hold, what the expression gave, and the marks
-source-is : (c : tie.After-place) →
-    let start = c .before .before .before .before in
-    c .place .result ≡ placeAt (now (now (start .args .nodes))) (nodeIn (start .args .task)) 1
-source-is c = rw (c .before .before .before .node-in .ensures) at (c .place .ensures .0)
-
+-- what the expression gave
 evaluated : (c : tie.After-eval) →
-    let start = c .before .before .before .before .before .before in
-    let s = now (now (start .args .nodes)) in
-    Evaluated (now (now (start .args .rows))) (now (now (start .args .constants))) s (now (start .args .store)) (placeAt s (nodeIn (start .args .task)) 1) (c .eval .result)
-evaluated c = rw (source-is (c .before .before)) at (c .eval .ensures)
+    let start = c .before .before .before in
+    let parts = map now (now (start .args .parts)) in
+    Evaluated parts (now (start .args .work)) (placeAt (nodesIn parts) (start .args .n) 1) (c .eval .result)
+evaluated c = rw (c .before .place-in .ensures .0) at (c .eval .ensures)
 
-field-is : (c : tie.After-place2) →
-    let start = c .before .before .before .before .before .before .before .before .before in
-    c .place2 .result ≡ placeAt (now (now (start .args .nodes))) (nodeIn (start .args .task)) 0
-field-is c = rw (c .before .before .before .before .before .before .before .before .node-in .ensures) at (c .place2 .ensures .0)
+-- the field, and its old mark
+field-there : (c : tie.After-place-in2) → c .place-in2 .result < 64
+field-there c =
+    let start = c .before .before .before .before .before in
+    rw (c .place-in2 .ensures .0) (field-few (start .pre .0) (start .pre .1))
 
 old-is : (c : tie.After-mark-in) →
-    let start = c .before .before .before .before .before .before .before .before .before .before .before .before .before in
-    c .mark-in .result ≡ markAt (now (start .args .store)) (placeAt (now (now (start .args .nodes))) (nodeIn (start .args .task)) 0)
-old-is c =
-    let place = c .before .before .before .before in
-    let start = place .before .before .before .before .before .before .before .before .before in
+    let start = c .before .before .before .before .before .before .before in
+    c .mark-in .result ≡ markIn (getD (now (start .args .work)) (placeAt (nodesIn (map now (now (start .args .parts)))) (start .args .n) 0) 0)
+old-is c = rw (c .before .before .place-in2 .ensures .0) at (c .mark-in .ensures)
+
+old-in-context : (c : tie.After-rows-in) →
+    let start = c .before .before .before .before .before .before .before .before in
+    InContext (now (c .rows-in .result)) (start .args .task) (c .before .mark-in .result)
+old-in-context c =
+    let start = c .before .before .before .before .before .before .before .before in
     let p = start .pre .0 in
-    let upper : c .before .field-at .result / 4294967296 ≡ markAt (now (start .args .store)) (placeAt (now (now (start .args .nodes))) (nodeIn (start .args .task)) 0)
-    = rw (field-is place) at (c .before .field-at .ensures .1) in
-    omega (arith, c .mark-in .ensures, upper, known-is _ _ (p .ready .marks _ (field-there p (start .pre .1))) .0)
+    rw (c .rows-in .ensures, old-is (c .before)) (record { order = p .ready .order; mark = field-held p (start .pre .1) .mark; context = p .context })
 
-stored-is : (c : tie.After-stored-mark) →
-    let call = c .before .before .before .before .before .before .before .before .before in
-    let start = call .before .before .before .before .before .before in
-    Stored (now (now (start .args .rows))) (start .args .task) (markAt (now (start .args .store)) (placeAt (now (now (start .args .nodes))) (nodeIn (start .args .task)) 0))
-    (markIn (call .eval .result)) (c .stored-mark .result)
-stored-is c = rw (old-is (c .before .before), c .before .mark-in2 .ensures) at (c .stored-mark .ensures)
+order-is : (c : tie.After-at-or-below) →
+    let start = c .before .before .before .before .before .before .before .before .before in
+    let parts = map now (now (start .args .parts)) in
+    let old = markIn (getD (now (start .args .work)) (placeAt (nodesIn parts) (start .args .n) 0) 0) in
+    lattice (rowsIn parts) .le (contextIn (start .args .task)) (levelOf (markOf old)) ≡ c .at-or-below .result
+order-is c = sym (rw (c .before .rows-in .ensures, old-is (c .before .before)) at (c .at-or-below .ensures))
 
-returns : tie.Need-returns
-returns c =
-    let node = c .before .before in
-    let start = node .before in
-    ran-spent (start .pre .0) (start .pre .1) _ _ (c .before .if1 .taken) (rw (node .node-in .ensures) at (c .stop .ensures))
+-- its new mark, raised or lowered
+mark-given : (c : tie.Joined2) →
+    let one = c .before .before .before .before .before .before in
+    let start = one .before .before .before .before in
+    let parts = map now (now (start .args .parts)) in
+    (leaves parts (now (start .args .work)) (start .args .n) (start .args .task) (one .before .eval .result) ≡ fine (markOf (c .if2 .mark)))
+    × (markKnown (count (rowsIn parts)) (c .if2 .mark) ≡ true)
+mark-given c =
+    let rows = c .before .before in
+    let rows-are = rows .rows-in .ensures in
+    ⊎-elim
+    (λ w. let given = rw (rows-are, w .1 .ensures) at (w .2 .ensures) in
+    rw (w .3) (stored-below _ _ _ _ _ (order-is (c .before) ∙ w .0 .taken) ∙ ap fine (sym (given .0)), given .1))
+    (λ w. let given = rw (rows-are, old-is (rows .before)) at (w .2 .ensures) in
+    rw (w .3) (stored-permissive _ _ _ _ _ (order-is (c .before) ∙ w .0 .left) (w .1 .left) ∙ ap fine (sym (given .0)), given .1))
+    (c .if2 .came)
 
 eval-requires : tie.Need-eval-requires
 eval-requires c κs =
-    let start = c .before .before .before .before .before in
-    rw (source-is (c .before)) (source-in (start .pre .0) (start .pre .1))
+    let start = c .before .before in
+    rw (c .place-in .ensures .0) (source-in (start .pre .0) (start .pre .1))
+
+returns : tie.Need-returns
+returns c =
+    let start = c .before .before .before .before in
+    assigned-stops (start .pre .0) (start .pre .1) _ (evaluated (c .before)) (c .if1 .taken)
+
+element-copy-out-mark-in : tie.Need-element-copy-out-mark-in
+element-copy-out-mark-in c = field-there c
+
+at-or-below-requires : tie.Need-at-or-below-requires
+at-or-below-requires c κs = old-in-context c
+
+raised-requires : tie.Need-raised-requires
+raised-requires c κs =
+    let rows = c .before .before .before in
+    let one = rows .before .before .before .before in
+    let p = one .before .before .before .before .pre .0 in
+    let known = one .before .eval .ensures .known (one .if1 .left) in
+    rw (rows .rows-in .ensures, c .mark-in2 .ensures) (record { order = p .ready .order; mark = known; context = p .context })
 
 returns-2 : tie.Need-returns-2
 returns-2 c =
-    let call = c .before .before in
-    let else = call .before .before .before .before in
-    let start = else .before .before in
-    ran-stops (start .pre .0) (start .pre .1) _ _ (unit else) _ (evaluated call) _ (c .before .if2 .taken) (c .handed .ensures .0) (c .handed .ensures .1) (c .handed .ensures .2)
+    let then = c .before in
+    let test = then .before .before in
+    let one = test .before .before .before .before .before in
+    let start = one .before .before .before .before in
+    let refused = stored-strict _ _ _ _ _ (order-is test ∙ then .before .if2 .left) (then .if3 .taken) in
+    assigned-refused (start .pre .0) (start .pre .1) _ (evaluated (one .before)) (one .if1 .left) refused _ (c .stop .ensures)
 
-field-at-requires : tie.Need-field-at-requires
-field-at-requires c κs =
-    let place = c .before .before in
-    let start = place .before .before .before .before .before .before .before .before .before in
-    rw (field-is place) (field-few (start .pre .0) (start .pre .1), start .pre .0 .ready .long)
+lowered-requires : tie.Need-lowered-requires
+lowered-requires c κs = old-in-context (c .before .before .before)
 
-stored-mark-requires : tie.Need-stored-mark-requires
-stored-mark-requires c κs =
-    let two = c .before .before .before .before .before .before .before in
-    let start = two .before .before .before .before .before .before .before in
-    let p = start .pre .0 in (
-      record {
-        order = p .ready .order;
-        first = rw (old-is (c .before)) (p .ready .marks _ (field-there p (start .pre .1)));
-        second = rw (c .mark-in2 .ensures) (two .before .eval .ensures .known (two .if2 .left));
-      },
-      p .context,
-    )
+element-write-work : tie.Need-element-write-work
+element-write-work c = field-there (c .before .before .before .before .before .before .before)
 
 returns-3 : tie.Need-returns-3
 returns-3 c =
-    let then = c .before .before in
-    let two = then .before .before .before .before .before .before .before .before .before in
-    let one = two .before .before .before .before .before in
-    let start = one .before .before in
-    ran-refused (start .pre .0) (start .pre .1) _ _ (unit one) _ (evaluated (two .before)) (two .if2 .left) _ (stored-is (then .before)) _ _ (then .if3 .taken)
-    (rw (one .before .node-in .ensures) at (c .before .stop2 .ensures)) (c .handed2 .ensures .0) (c .handed2 .ensures .1) (c .handed2 .ensures .2)
-
-put-cell-requires : tie.Need-put-cell-requires
-put-cell-requires c κs =
-    let place = c .before .before .before .before .before .before .before .before .before .before in
-    let start = place .before .before .before .before .before .before .before .before .before in
-    rw (field-is place) (field-few (start .pre .0) (start .pre .1), start .pre .0 .ready .long)
-
-cast-result : tie.Need-cast-result
-cast-result c = omega (arith, left-few (c .before .before .before .before .before .before .before .before .before .before .before .before .before .before .before .before .before .before))
-
-returns-4 : tie.Need-returns-4
-returns-4 c =
-    let else = c .before .before .before .before in
-    let place = else .before .before .before .before .before .before .before in
-    let two = place .before .before in
-    let one = two .before .before .before .before .before in
-    let start = one .before .before in
-    ran-done (start .pre .0) (start .pre .1) _ _ (unit one) _ (evaluated (two .before)) (two .if2 .left) _ (stored-is (else .before)) _ _ (else .if3 .left) (left-few one)
-    (rw (c .before .before .value-in .ensures) at (c .before .seen .ensures .0)) (c .before .seen .ensures .1) (c .before .seen .ensures .2) (rw (field-is place) at (c .put-cell .ensures))
+    let joined = c .before .before in
+    let place = joined .before .before .before .before .before in
+    let one = place .before in
+    let start = one .before .before .before .before in
+    let (taken, known) = mark-given joined in
+    rw (place .place-in2 .ensures .0)
+    (assigned-done (start .pre .0) (start .pre .1) _ (evaluated (one .before)) (one .if1 .left) _ taken known _
+    (rw (c .before .value-in .ensures) at (c .seen .ensures .0)) (c .seen .ensures .1) (c .seen .ensures .2))
 
 pub assign-spec : {M : Type 1} → statement M
 assign-spec =
     tie.close
     (tie.spec
     (λ c κs. search needs)
-    (λ c κs. search needs)
-    returns
-    (λ c. search needs)
-    (λ c κs. search needs)
-    (λ c. search needs)
     eval-requires
+    returns
+    (λ c κs. search needs)
+    (λ c. search needs)
+    element-copy-out-mark-in
+    (λ c κs. search needs)
+    (λ c κs. search needs)
+    at-or-below-requires
+    (λ c κs. search needs)
+    raised-requires
     (λ c κs. search needs)
     returns-2
-    (λ c κs. search needs)
-    field-at-requires
-    (λ c κs. search needs)
-    (λ c κs. search needs)
-    stored-mark-requires
+    lowered-requires
     (λ c κs. search needs)
     (λ c κs. search needs)
-    returns-3
-    (λ c κs. search needs)
-    (λ c κs. search needs)
-    put-cell-requires
-    cast-result
-    returns-4)
+    (λ c. search needs)
+    element-write-work
+    returns-3)

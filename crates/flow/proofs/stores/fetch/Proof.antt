@@ -1,48 +1,48 @@
--- The bytes so far, then what stood there.
+-- The fields so far, then zeros.
 use borrow.Author.Needs.{needs}
 use native.Mathlib.Omega.{arith}
+use native.Mathlib.Nat.{le-antisymm}
 use Prim.Native.Nat.{ℕ, _-_, _≤_}
-use mathlib.Core.Path.{_≡_, refl, ap, _∙_}
-use mathlib.Core.List.{List, _++_}
-use lib.ListN.{length, take, drop, set, getD, length-set, length-replicate}
-use lib.Seq.{take-all}
+use mathlib.Core.Path.{subst}
 use denote.Ref.{now}
-use Rattle.flow.specs.Stores.{storeOf}
-use Rattle.flow.proofs.Entries.{padded-store, copy-next}
+use Rattle.flow.proofs.Entries.{Filling, fetch-first, fetch-next, fetch-last}
 use Rattle.flow.proofs.stores.fetch.Statement.{statement}
 use Rattle.flow.proofs.stores.fetch.Tie as tie
 
 abbrev Inv-loop : tie.InvT-loop
-Inv-loop store work₀ i₀ work i = (i ≤ length store) × (work ≡ take i store ++ drop i work₀) × (length work ≡ 322)
+Inv-loop store work₀ fields i₀ work i = (i ≤ fields) × Filling store work i
 
 abbrev μ-loop : tie.MeasureT-loop
-μ-loop store work₀ i₀ work i = length store - i
+μ-loop store work₀ fields i₀ work i = fields - i
 
 loop-holds : tie.Need-loop-holds Inv-loop μ-loop
-loop-holds c = (omega arith, refl, ap length (c .pre .1) ∙ length-replicate {A = ℕ} 322 0)
+loop-holds c =
+    let start = c .before in
+    (omega arith, fetch-first (now (start .args .store)) _ (start .pre .2))
+
+entry-at-requires : tie.Need-entry-at-requires Inv-loop μ-loop
+entry-at-requires c κs =
+    let start = c .before .before .before in
+    omega (arith, c .loop-test .taken, start .pre .1)
 
 loop-again : tie.Need-loop-again Inv-loop μ-loop
 loop-again c =
-    let at-loop = c .before .before in
-    let start = at-loop .before in
-    let s = now (start .args .store) in
-    let i = at-loop .loop .i in
-    let inv = at-loop .loop .inv in
-    let inside = c .before .loop-test .taken in
-    let long : length (now (start .args .work)) ≡ 322 = ap length (start .pre .1) ∙ length-replicate {A = ℕ} 322 0 in (
-      omega arith,
-      ap (λ (l : List ℕ). set l i (getD s i 0)) (inv .1) ∙ copy-next s (now (start .args .work)) i inside (omega (arith, start .pre .0)),
-      length-set (at-loop .loop .work) i (getD s i 0) ∙ inv .2,
-    )
+    let in-loop = c .before in
+    let at-loop = in-loop .before in
+    let start = at-loop .before .before in
+    let entry = c .entry-at .ensures in
+    let inside = in-loop .loop-test .taken in
+    (omega arith, fetch-next (now (start .args .store)) _ _ _ (omega (arith, start .pre .0)) (at-loop .loop .inv .1) (entry .0) (entry .1))
 
 returns : tie.Need-returns Inv-loop μ-loop
 returns c =
     let at-loop = c .before in
-    let start = at-loop .before in
-    let s = now (start .args .store) in
-    let i = at-loop .loop .i in
+    let start = at-loop .before .before in
+    let store = now (start .args .store) in
+    let work = at-loop .loop .work in
     let inv = at-loop .loop .inv in
-    (ap storeOf (inv .1 ∙ rw (take-all i s (c .loop-test .left), start .pre .1)) ∙ padded-store s i 322, inv .2)
+    fetch-last store work (start .args .fields) (start .pre .1)
+    (subst (λ (k : ℕ). Filling store work k) (le-antisymm (inv .0) (c .loop-test .left)) (inv .1))
 
 pub fetch-spec : {M : Type 1} → statement M
 fetch-spec =
@@ -51,6 +51,7 @@ fetch-spec =
     Inv-loop
     μ-loop
     loop-holds
+    entry-at-requires
     (λ c. search needs)
     (λ c. search needs)
     (λ c. search needs)

@@ -20,7 +20,7 @@ returns c = let e = back (c .before .before .before .before .before) in rw (toZ-
 
 returns-2 : tie.Need-returns-2
 unfolding exactly
-returns-2 c = let e = back (c .before .before .before .before .before) in rw (rw e at (c .if1 .left))
+returns-2 c = let e = back (c .before .before .before .before .before) in rw (e, rw e at (c .if1 .left))
 
 pub exact-spec : {M : Type 1} → statement M
 exact-spec = tie.close (tie.spec (λ c. search needs) (λ c. search needs) cast-n returns returns-2)

@@ -3,21 +3,21 @@ use borrow.Author.Needs.{needs}
 use mathlib.Core.Path.{ap, _∙_}
 use lib.IntN.{ℤ}
 use denote.Ref.{now}
-use Rattle.flow.specs.Rules.{gives, cell}
+use Rattle.flow.specs.Rules.{cell}
 use Rattle.flow.specs.Stores.{markOf, markAt, cellAt}
-use Rattle.flow.proofs.cells.field_at.Statement.{statement}
-use Rattle.flow.proofs.cells.field_at.Tie as tie
+use Rattle.flow.proofs.stores.entry_at.Statement.{statement}
+use Rattle.flow.proofs.stores.entry_at.Tie as tie
 
 returns : tie.Need-returns
 unfolding cellAt
 returns c =
-    let start = c .before .before .before .before .before .before .before in
+    let start = c .before .before .before .before .before .before .before .before in
     let seen = c .seen .ensures in
     let mark = markOf (markAt (now (start .args .store)) (start .args .i)) in
-    (seen .0 ∙ ap (λ (z : ℤ). gives (cell (record { n = z }) mark)) (c .before .before .of-bytes .ensures), seen .1, seen .2)
+    (seen .0 ∙ ap (λ (z : ℤ). cell (record { n = z }) mark) (c .before .before .of-bytes .ensures), seen .2)
 
-pub field-at-spec : {M : Type 1} → statement M
-field-at-spec =
+pub entry-at-spec : {M : Type 1} → statement M
+entry-at-spec =
     tie.close
     (tie.spec
     (λ c. search needs)

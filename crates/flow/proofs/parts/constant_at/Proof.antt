@@ -2,8 +2,8 @@
 use borrow.Author.Needs.{needs}
 use mathlib.Core.Path.{ap}
 use lib.IntN.{ℤ}
-use Rattle.flow.proofs.cells.constant_at.Statement.{statement}
-use Rattle.flow.proofs.cells.constant_at.Tie as tie
+use Rattle.flow.proofs.parts.constant_at.Statement.{statement}
+use Rattle.flow.proofs.parts.constant_at.Tie as tie
 
 returns : tie.Need-returns
 returns c = ap (λ (z : ℤ). record { n = z }) (c .of-bytes .ensures)
