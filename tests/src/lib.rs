@@ -1,9 +1,10 @@
 //! Tests of Beltuqash from the outside: a model of its calls written from
-//! document 01 alone, a generator of sheets, and the comparison of the model
-//! with any other judge of sheets.
+//! document 01 alone, a generator of sheets and calls, the comparison of the model
+//! with whoever else answers them, and a search for what a reader may not see.
 
 pub mod compare;
 pub mod generate;
 pub mod model;
 pub mod random;
+pub mod search;
 pub mod wrong;

@@ -26,6 +26,16 @@ impl Random {
         Random::of(mix(!seed.wrapping_add(STEP)), index)
     }
 
+    /// The generator for one hand-out of a run.
+    pub fn of_hand_out(seed: u64, index: u64) -> Random {
+        Random::of(mix(seed.wrapping_add(STEP) ^ 1), index)
+    }
+
+    /// The generator for one pair of calls of a run.
+    pub fn of_pair(seed: u64, index: u64) -> Random {
+        Random::of(mix(!seed.wrapping_add(STEP) ^ 1), index)
+    }
+
     fn of(run: u64, index: u64) -> Random {
         Random {
             state: mix(run ^ index.wrapping_mul(STEP)),
@@ -120,6 +130,19 @@ mod tests {
         assert_eq!(first(7, 8), first(7, 8));
         assert_ne!(first(7, 8), first(7, 9));
         assert_ne!(first(7, 8), first(8, 8));
-        assert_ne!(first(7, 8), Random::of_call(7, 8).word());
+    }
+
+    #[test]
+    fn each_kind_of_input_has_draws_of_its_own() {
+        let first = [
+            Random::of_sheet(7, 8),
+            Random::of_call(7, 8),
+            Random::of_hand_out(7, 8),
+            Random::of_pair(7, 8),
+        ]
+        .map(|mut random| random.word());
+        for at in 1..first.len() {
+            assert!(!first[..at].contains(&first[at]));
+        }
     }
 }

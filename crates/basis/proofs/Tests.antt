@@ -1,11 +1,11 @@
 -- What a passed test says, and what passes one.
-use Prim.Native.Nat.{ℕ, zero, suc, _+_, _≤_, _<_}
+use Prim.Native.Nat.{ℕ, zero, suc, _+_, _≤_, _<_, zero-le}
 use native.Mathlib.Numerals.{add-one}
 use native.Mathlib.Omega.{arith}
 use native.Mathlib.Decide.{ℕ-discrete}
-use mathlib.Core.Path.{_≡_, refl, sym, _∙_}
+use mathlib.Core.Path.{_≡_, refl, sym, ap, _∙_}
 use mathlib.Core.Bool.{Bool, true, false, _&&_, true≢false}
-use Rattle.basis.specs.Tests.{_⇒_, all, some, which}
+use Rattle.basis.specs.Tests.{_⇒_, all, some, which, first}
 
 pub both : (a b : Bool) → (a && b) ≡ true → (a ≡ true) × (b ≡ true)
 both true b h = (refl, h)
@@ -112,3 +112,47 @@ all-same n P Q f =
     iff (all n P) (all n Q)
     (λ h. all-of n Q (λ i l. sym (f i l) ∙ all-at n P h i l))
     (λ h. all-of n P (λ i l. f i l ∙ all-at n Q h i l))
+
+-- ── a loop that looks for the first number that passes ──────────────────────────────────────
+
+-- no number below n passes
+abbrev pub None : ℕ → (ℕ → Bool) → Type 0
+None n P = (i : ℕ) → i < n → P i ≡ false
+
+pub none-at-first : (P : ℕ → Bool) → None 0 P
+none-at-first P i h = absurd (omega arith)
+
+pub none-more : (n : ℕ) (P : ℕ → Bool) → None n P → P n ≡ false → None (n + 1) P
+none-more n P below here i h = go (ℕ-discrete i n)
+  where
+    go : Dec (i ≡ n) → P i ≡ false
+    go (yes e) = rw e here
+    go (no ne) = below i (omega arith)
+
+-- the one that passes after none did is the first
+pub first-is : (n : ℕ) (P : ℕ → Bool) (i : ℕ) → i < n → None i P → P i ≡ true → first n P ≡ i
+unfolding first
+first-is zero P i inside none here = absurd (omega arith)
+first-is (suc n) P zero inside none here = rw (here, first)
+first-is (suc n) P (suc i) inside none here =
+    rw (none zero (omega arith), first) (ap suc (first-is n (λ j. P (suc j)) i (omega arith) (λ j h. none (suc j) (omega arith)) here))
+
+pub first-none : (n : ℕ) (P : ℕ → Bool) → None n P → first n P ≡ n
+unfolding first
+first-none zero P none = refl
+first-none (suc n) P none = rw (none zero (omega arith), first) (ap suc (first-none n (λ i. P (suc i)) (λ i h. none (suc i) (omega arith))))
+
+pub first-most : (n : ℕ) (P : ℕ → Bool) → first n P ≤ n
+unfolding first
+first-most zero P = zero-le
+first-most (suc n) P = split (P zero) (λ e. rw (e, first) zero-le) (λ e. rw (e, first) (omega (arith, first-most n (λ i. P (suc i)))))
+
+-- if the first is n, none passes
+pub none-first : (n : ℕ) (P : ℕ → Bool) → first n P ≡ n → None n P
+unfolding first
+none-first zero P e i h = absurd (omega arith)
+none-first (suc n) P e zero h = is-false (P zero) (λ t. let none : zero ≡ suc n = rw (t, first) at e in omega arith)
+none-first (suc n) P e (suc i) h =
+    split (P zero)
+    (λ t. let none : zero ≡ suc n = rw (t, first) at e in absurd (omega arith))
+    (λ f. let more : suc (first n (λ i. P (suc i))) ≡ suc n = rw (f, first) at e in none-first n (λ i. P (suc i)) (omega arith) i (omega arith))

@@ -21,3 +21,8 @@ some (suc n) P = elim (P n) [ true ↦ true | false ↦ some n P ]
 unfoldable pub which : ℕ → (ℕ → Bool) → ℕ
 which zero P = zero
 which (suc n) P = elim (P n) [ true ↦ n | false ↦ which n P ]
+
+-- the least number below n that passes, or n if none does
+unfoldable pub first : ℕ → (ℕ → Bool) → ℕ
+first zero P = zero
+first (suc n) P = elim (P zero) [ true ↦ zero | false ↦ suc (first n (λ i. P (suc i))) ]

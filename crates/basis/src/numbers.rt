@@ -32,3 +32,7 @@ pub const DIVISOR_ZERO: u8 = 14;
 pub const NOT_BELOW: u8 = 15;
 
 pub const PARTIAL_TEST: u8 = 16;
+
+pub const READER_OR_REQUEST: u8 = 17;
+
+pub const PARTIAL_ASKED: u8 = 18;

@@ -1,41 +1,36 @@
 -- Run, check by check: what is told, what a run is given once all checks have passed, and what its word says.
-use Prim.Native.Nat.{ℕ, zero, suc, _+_, _-_, _*_, _/_, _%_, _≤_, _<_}
+use Prim.Native.Nat.{ℕ, zero, suc, _+_, _-_, _%_, _≤_, _<_}
 use native.Mathlib.Omega.{arith}
 use mathlib.Core.Path.{_≡_, refl, sym, ap, _∙_}
 use mathlib.Core.Bool.{Bool, true, false, _&&_, _||_, true≢false}
 use mathlib.Core.List.{List, [], _∷_}
 use borrow.Author.Tests.{ltb-false, leb-true, eqb-true, eqb-false, le-ltb, le-leb}
 use lib.Dec.{eqb, ltb, leb}
-use lib.ListN.{length, getD, drop}
-use Rattle.basis.proofs.Tests.{both, and-of, is-false, split, all-at}
+use lib.ListN.{length, getD}
+use Rattle.basis.proofs.Tests.{both, and-of, is-false, split}
 use Rattle.levels.specs.Levels.{count, lowestOf}
 use Rattle.levels.specs.Lattice.{lattice}
 use Rattle.levels.proofs.Bounds.{lowest-is}
 use Rattle.sheet.specs.Verdict.{numberOf, passesOf}
-use Rattle.sheet.specs.Sections.{fieldsAt, nodesAt, levelsOf, fieldsOf, constantsOf, nodesOf}
+use Rattle.sheet.specs.Sections.{levelsOf, constantsOf, nodesOf}
 use Rattle.sheet.specs.Load.{fieldCount, lastOf, programOf, loadOf, Loaded}
-use Rattle.sheet.proofs.Parts.{entries-length}
 use Rattle.sheet.proofs.Verdicts.{passes-is}
 use Rattle.sheet.proofs.Loading.{loaded}
-use Rattle.flow.specs.Rules as rules
-use Rattle.flow.specs.Rules.{outOfRange, divisorZero, notBelow, partialTest, End, done, stopped, exec}
-use Rattle.flow.specs.Marks.{Mark, Mode, strict, permissive, modeOf, marking}
-use Rattle.flow.specs.Stores.{storeLength, storeOf, markAt, markKnown, markTaken, marksRight, storeFits}
+use Rattle.rules.specs.Rules as rules
+use Rattle.rules.specs.Rules.{outOfRange, divisorZero, notBelow, partialTest, End, done, stopped, exec}
+use Rattle.rules.specs.Marks.{Mark, modeOf, marking}
+use Rattle.rules.specs.Stores.{storeLength, storeOf}
 use Rattle.flow.specs.Words.{placeIn, numberIn, workOf, whyOf, Fetched}
 use Rattle.flow.specs.Tasks.{First, stopOf, endOf, Told, CmdIn, Ran}
+use Rattle.flow.proofs.Marking.{marks-known}
 use Rattle.flow.proofs.Entries.{fetched-mark}
 use Rattle.flow.proofs.Ends.{end-done, end-stop}
-use Rattle.flow.proofs.Units.{units-done, units-stopped}
-use Rattle.beltuqash.specs.Answer.{answer, wordOf}
-use Rattle.beltuqash.specs.Calls.{Outcome, ended, run, runFrom}
+use Rattle.rules.proofs.Units.{units-done, units-stopped}
+use Rattle.beltuqash.specs.Answer.{answer}
+use Rattle.beltuqash.specs.Calls.{Outcome, refuse, ended, run, runFrom}
+use Rattle.beltuqash.specs.Checks.{Taken, Judged}
 use Rattle.beltuqash.specs.Runs.{Given}
-
--- a word and an output have an outcome
-abbrev Has : ℕ → List ℕ → Outcome → Type 0
-Has r out x = (r ≡ wordOf (x .answer)) × (out ≡ x .out)
-
-pub has-same : {r : ℕ} {out : List ℕ} {x y : Outcome} → x ≡ y → Has r out y → Has r out x
-has-same e h = rw e h
+use Rattle.beltuqash.proofs.Checking.{passed, taken-next, judged-refusal, few-fields, nodes-long}
 
 -- ── the checks ──────────────────────────────────────────────────────────────────────────────
 
@@ -62,85 +57,34 @@ module _ (mode fuel : ℕ) where
   rightly-asked h = and-of (le-leb mode 1 (known-mode h)) (le-leb fuel 1000000 (ltb-false 1000000 fuel (neither (ltb 1 mode) _ h .1)))
 
   module _ (sheet store out : List ℕ) where
-    abbrev refused : ℕ → Outcome
-    refused number = record { answer = answer number 0 0; out = out }
-
     abbrev whole : Outcome
     whole = run sheet store mode fuel out
 
-    pub told-10 : asked ≡ false → whole ≡ refused 10
+    pub told-10 : asked ≡ false → whole ≡ refuse 10 0 out
     unfolding run
     told-10 e = rw e
 
     module _ (a : asked ≡ true) where
-      pub told-load : passesOf (loadOf sheet) ≡ false → whole ≡ refused (numberOf (loadOf sheet))
+      pub told-store : {r : ℕ} → Judged sheet store (modeOf mode) r → (r ≡ 0 → ⊥) → whole ≡ refuse r 0 out
       unfolding run
-      told-load e = rw (a, e)
+      told-store judged some = rw a (judged-refusal judged some out _)
 
-      module _ (p : passesOf (loadOf sheet) ≡ true) where
-        pub told-8 : storeFits (fieldCount sheet) store ≡ false → whole ≡ refused 8
+      module _ (taken : Taken sheet store (modeOf mode)) where
+        pub told-11 : leb (storeLength (fieldCount sheet)) (length out) ≡ false → whole ≡ refuse 11 0 out
         unfolding run
-        told-8 e = rw (a, p, e)
+        told-11 e = rw a (taken-next taken out _ ∙ rw e)
 
-        module _ (f : storeFits (fieldCount sheet) store ≡ true) where
-          pub told-9 : marksRight (modeOf mode) (count (levelsOf sheet)) (fieldCount sheet) store ≡ false → whole ≡ refused 9
-          unfolding run
-          told-9 e = rw (a, p, f, e)
-
-          module _ (m : marksRight (modeOf mode) (count (levelsOf sheet)) (fieldCount sheet) store ≡ true) where
-            pub told-11 : leb (storeLength (fieldCount sheet)) (length out) ≡ false → whole ≡ refused 11
-            unfolding run
-            told-11 e = rw (a, p, f, m, e)
-
-            pub goes-on : leb (storeLength (fieldCount sheet)) (length out) ≡ true → whole ≡ runFrom sheet store mode fuel out
-            unfolding run
-            goes-on e = rw (a, p, f, m, e)
+        pub goes-on : leb (storeLength (fieldCount sheet)) (length out) ≡ true → whole ≡ runFrom sheet store mode fuel out
+        unfolding run
+        goes-on e = rw a (taken-next taken out _ ∙ rw e)
 
     -- number 0 comes only of a sheet that passes
     pub done-loaded : whole .answer .number ≡ 0 → Loaded sheet
+    unfolding run
     done-loaded zero-is =
-        split asked
-        (λ a. split (passesOf (loadOf sheet))
-        (λ p. loaded sheet (passes-is _ p))
-        (λ e. absurd (eqb-false (numberOf (loadOf sheet)) 0 e (sym (ap (λ (x : Outcome). x .answer .number) (told-load a e)) ∙ zero-is))))
-        (λ e. let ten : 10 ≡ 0 = sym (ap (λ (x : Outcome). x .answer .number) (told-10 e)) ∙ zero-is in absurd (omega arith))
-
--- ── what a sheet and a store have ───────────────────────────────────────────────────────────
-
-module _ (sheet : List ℕ) (loaded : Loaded sheet) where
-  -- 1 to 64 fields
-  pub fields-long : length (fieldsOf sheet) ≤ 512
-  fields-long =
-      let part = loaded .sections .fields in
-      let long = entries-length 8 (drop (fieldsAt sheet) sheet) (part .whole) in
-      let few = part .few in
-      omega arith
-
-  pub few-fields : fieldCount sheet ≤ 64
-  few-fields = omega (arith, fields-long)
-
-  -- 1 to 1,024 nodes
-  pub nodes-long : (8 ≤ length (nodesOf sheet)) × (length (nodesOf sheet) ≤ 8192)
-  nodes-long =
-      let part = loaded .sections .nodes in
-      let long = entries-length 8 (drop (nodesAt sheet) sheet) (part .whole) in
-      let some = part .some in
-      let few = part .few in
-      (omega arith, omega arith)
-
-pub fits-long : (fields : ℕ) (store : List ℕ) → storeFits fields store ≡ true → length store ≡ storeLength fields
-unfolding storeFits
-fits-long fields store e = eqb-true _ _ (both _ _ e .0)
-
--- a mark that a run takes is known
-taken-known : (mode : Mode) (levels byte : ℕ) → markTaken mode levels byte ≡ true → markKnown levels byte ≡ true
-taken-known strict levels byte e = both _ _ e .0
-taken-known permissive levels byte e = e
-
-marks-known : (mode : Mode) (levels fields : ℕ) (store : List ℕ) → marksRight mode levels fields store ≡ true
-    → (i : ℕ) → i < fields → markKnown levels (markAt store i) ≡ true
-unfolding marksRight
-marks-known mode levels fields store e i h = taken-known mode levels _ (all-at fields (λ i. markTaken mode levels (markAt store i)) e i h)
+        let (asked, rest) = passed asked 10 out _ (λ e. absurd (omega arith)) zero-is in
+        let (passes, end) = passed (passesOf (loadOf sheet)) (numberOf (loadOf sheet)) out _ (λ e. rw e) rest in
+        loaded sheet (passes-is _ passes)
 
 -- what is said of three lists is said of equal ones
 pub moved : (P : List ℕ → List ℕ → List ℕ → Type 0) {a b c x y z : List ℕ} → a ≡ x → b ≡ y → c ≡ z → P a b c → P x y z

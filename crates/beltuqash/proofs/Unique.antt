@@ -1,14 +1,14 @@
 -- A call's contract leaves one answer: its word, and what it leaves in lent memory, follow from what came in, and the word tells number, place
 -- and units apart.
-use Prim.Native.Nat.{ℕ, _+_, _*_, _%_, _^_, _≤_, _<_}
+use Prim.Native.Nat.{ℕ, _+_, _*_, _%_, _^_, _≤_, _<_, zero-le}
 use native.Mathlib.Omega.{arith}
 use mathlib.Core.Path.{_≡_, refl, sym, _∙_}
 use mathlib.Core.Bool.{Bool, true, false, _&&_}
 use mathlib.Core.List.{List}
-use borrow.Author.Tests.{leb-true}
-use lib.Dec.{leb}
+use borrow.Author.Tests.{leb-true, ltb-true}
+use lib.Dec.{ltb, leb}
 use lib.ListN.{length}
-use Rattle.basis.proofs.Tests.{both}
+use Rattle.basis.proofs.Tests.{both, split}
 use Rattle.levels.specs.Levels.{count}
 use Rattle.levels.specs.Lattice.{lattice}
 use Rattle.sheet.specs.Verdict.{numberOf, passesOf}
@@ -18,14 +18,18 @@ use Rattle.sheet.specs.declared.verdict.Verdict.{Verdict}
 use Rattle.sheet.specs.declared.verdict.Verdict.the-variants.{Passes, Length, Count, Levels, Name, Node, Uses, Depth}
 use Rattle.sheet.proofs.Verdicts.{passes-is}
 use Rattle.sheet.proofs.Loading.{loaded}
-use Rattle.flow.specs.Rules as rules
-use Rattle.flow.specs.Rules.{Why, outOfRange, divisorZero, notBelow, partialTest, End}
-use Rattle.flow.specs.Marks.{Mark, modeOf, marking}
-use Rattle.flow.specs.Stores.{storeLength, storeOf, storeFits, marksRight}
-use Rattle.flow.proofs.Stops.{EndUpTo, upto-done, upto-spent, upto-stopped, cmd-upto, exec-upto}
+use Rattle.rules.specs.Rules as rules
+use Rattle.rules.specs.Rules.{Why, outOfRange, divisorZero, notBelow, partialTest, End}
+use Rattle.rules.specs.Marks.{Mark, Mode, permissive, modeOf, marking}
+use Rattle.rules.specs.Stores.{storeLength, storeOf, storeFits, marksRight}
+use Rattle.rules.proofs.Stops.{EndUpTo, upto-done, upto-spent, upto-stopped, cmd-upto, exec-upto}
+use Rattle.handout.specs.Requests.{askedCount, requestRight}
+use Rattle.handout.specs.Answers.{firstPartial, answerLength}
+use Rattle.handout.proofs.Requesting.{right-has}
 use Rattle.beltuqash.specs.Answer.{Answer, wordOf}
-use Rattle.beltuqash.specs.Calls.{Outcome, check, load, ended, runFrom, run}
-use Rattle.beltuqash.proofs.Running.{nodes-long}
+use Rattle.beltuqash.specs.Calls.{Outcome, check, checkStore, load, ended, runFrom, run, handed, handOut}
+use Rattle.beltuqash.specs.Checks.{Taken}
+use Rattle.beltuqash.proofs.Checking.{nodes-long}
 
 -- an answer that the word has room for
 pub record Fits (a : Answer) : Type 0 where
@@ -58,15 +62,32 @@ load-range sheet = (number-least (loadOf sheet), refl, refl)
 pub load-unique : (sheet : List ℕ) (r s : ℕ) → r ≡ wordOf (load sheet) → s ≡ wordOf (load sheet) → r ≡ s
 load-unique sheet r s p q = p ∙ sym q
 
--- run gives 0 to 16, with the number of a node as its place and with at most 1,000,000 units
-record InRange (x : Outcome) : Type 0 where
-  number : x .answer .number ≤ 16
-  place : x .answer .place < 1024
-  units : x .answer .units ≤ 1000000
+-- ── the range of what a call that writes answers ────────────────────────────────────────────
 
-check-range : (right : Bool) (number : ℕ) (out : List ℕ) (next : Outcome) → number ≤ 16 → (right ≡ true → InRange next) → InRange (check right number out next)
-check-range true number out next few goes-on = goes-on refl
-check-range false number out next few goes-on = record { number = few; place = omega arith; units = omega arith }
+module _ (most places fuel : ℕ) where
+  record Within (x : Outcome) : Type 0 where
+    number : x .answer .number ≤ most
+    place : x .answer .place < places
+    units : x .answer .units ≤ fuel
+
+  module _ (some : 0 < places) where
+    check-within : (right : Bool) (number : ℕ) (out : List ℕ) (next : Outcome) → number ≤ most → (right ≡ true → Within next) → Within (check right number out next)
+    check-within true number out next few goes-on = goes-on refl
+    check-within false number out next few goes-on = record { number = few; place = some; units = zero-le }
+
+    store-within : (sheet store : List ℕ) (mode : Mode) (out : List ℕ) (next : Outcome) → 9 ≤ most → (Taken sheet store mode → Within next)
+        → Within (checkStore sheet store mode out next)
+    store-within sheet store mode out next few goes-on =
+        check-within (passesOf (loadOf sheet)) (numberOf (loadOf sheet)) out _ (omega (arith, number-least (loadOf sheet)))
+        (λ passes. check-within (storeFits (fieldCount sheet) store) 8 out _ (omega arith)
+        (λ fits. check-within (marksRight mode (count (levelsOf sheet)) (fieldCount sheet) store) 9 out _ (omega arith)
+        (λ marks. goes-on (record { passes = passes; fits = fits; marks = marks }))))
+
+-- ── run ─────────────────────────────────────────────────────────────────────────────────────
+
+-- 0 to 16, with the number of a node as its place and with at most 1,000,000 units
+abbrev InRun : Outcome → Type 0
+InRun = Within 16 1024 1000000
 
 why-range : (why : Why) → rules.numberOf why ≤ 16
 why-range outOfRange = omega arith
@@ -74,7 +95,7 @@ why-range divisorZero = omega arith
 why-range notBelow = omega arith
 why-range partialTest = omega arith
 
-ended-range : (fields fuel : ℕ) (out : List ℕ) {n : ℕ} {x : End Mark} → EndUpTo n x → n < 1024 → fuel ≤ 1000000 → InRange (ended fields fuel out x)
+ended-range : (fields fuel : ℕ) (out : List ℕ) {n : ℕ} {x : End Mark} → EndUpTo n x → n < 1024 → fuel ≤ 1000000 → InRun (ended fields fuel out x)
 unfolding ended
 ended-range fields fuel out upto-done small few = record { number = omega arith; place = omega arith; units = omega arith }
 ended-range fields fuel out (upto-spent p) small few = record { number = omega arith; place = omega arith; units = few }
@@ -88,7 +109,7 @@ module _ (sheet store : List ℕ) (mode fuel : ℕ) (out : List ℕ) where
       → (r ≡ s) × (x ≡ y)
   run-unique r s x y p q = (p .0 ∙ sym (q .0), p .1 ∙ sym (q .1))
 
-  from-range : Loaded sheet → fuel ≤ 1000000 → InRange (runFrom sheet store mode fuel out)
+  from-range : Loaded sheet → fuel ≤ 1000000 → InRun (runFrom sheet store mode fuel out)
   unfolding runFrom
   from-range loaded few =
       let nodes = nodesOf sheet in
@@ -100,18 +121,52 @@ module _ (sheet store : List ℕ) (mode fuel : ℕ) (out : List ℕ) where
       (exec-upto (marking (lattice (levelsOf sheet)) (modeOf mode)) places (lattice (levelsOf sheet) .bot) (storeOf store) fuel)
       small few
 
-  in-range : InRange (run sheet store mode fuel out)
+  in-range : InRun (run sheet store mode fuel out)
   unfolding run
   in-range =
-      check-range (leb mode 1 && leb fuel 1000000) 10 out _ (omega arith)
-      (λ asked. check-range (passesOf (loadOf sheet)) (numberOf (loadOf sheet)) out _ (omega (arith, number-least (loadOf sheet)))
-      (λ passes. check-range (storeFits (fieldCount sheet) store) 8 out _ (omega arith)
-      (λ fits. check-range (marksRight (modeOf mode) (count (levelsOf sheet)) (fieldCount sheet) store) 9 out _ (omega arith)
-      (λ marks. check-range (leb (storeLength (fieldCount sheet)) (length out)) 11 out _ (omega arith)
-      (λ room. from-range (loaded sheet (passes-is _ passes)) (leb-true fuel 1000000 (both (leb mode 1) _ asked .1)))))))
+      let some : 0 < 1024 = omega arith in
+      check-within 16 1024 1000000 some (leb mode 1 && leb fuel 1000000) 10 out _ (omega arith)
+      (λ asked. store-within 16 1024 1000000 some sheet store (modeOf mode) out _ (omega arith)
+      (λ taken. check-within 16 1024 1000000 some (leb (storeLength (fieldCount sheet)) (length out)) 11 out _ (omega arith)
+      (λ room. from-range (loaded sheet (passes-is _ (taken .passes))) (leb-true fuel 1000000 (both (leb mode 1) _ asked .1)))))
 
   -- so `word-tells` speaks of any two runs
   pub run-fits :
       let a = run sheet store mode fuel out .answer in
       (a .number ≤ 16) × (a .place < 1024) × (a .units ≤ 1000000)
   run-fits = (in-range .number, in-range .place, in-range .units)
+
+-- ── hand-out ────────────────────────────────────────────────────────────────────────────────
+
+module _ (sheet store : List ℕ) (reader : ℕ) (request out : List ℕ) where
+  -- two words with two outputs that meet the contract of hand-out are one
+  pub hand-out-unique : (r s : ℕ) (x y : List ℕ)
+      → (r ≡ wordOf (handOut sheet store reader request out .answer)) × (x ≡ handOut sheet store reader request out .out)
+      → (s ≡ wordOf (handOut sheet store reader request out .answer)) × (y ≡ handOut sheet store reader request out .out)
+      → (r ≡ s) × (x ≡ y)
+  hand-out-unique r s x y p q = (p .0 ∙ sym (q .0), p .1 ∙ sym (q .1))
+
+  -- 0 to 18, with a position in the request as its place and with no units
+  handed-range : requestRight (fieldCount sheet) request ≡ true → Within 18 64 0 (handed sheet store reader request out)
+  unfolding handed
+  handed-range right =
+      let few = right-has _ _ right .few in
+      let first = firstPartial (storeOf store) request in
+      split (ltb first (askedCount request))
+      (λ t. let inside = ltb-true first (askedCount request) t in rw t (record { number = omega arith; place = omega arith; units = omega arith }))
+      (λ f. rw f (record { number = omega arith; place = omega arith; units = omega arith }))
+
+  handing-range : Within 18 64 0 (handOut sheet store reader request out)
+  unfolding handOut
+  handing-range =
+      let some : 0 < 64 = omega arith in
+      store-within 18 64 0 some sheet store permissive out _ (omega arith)
+      (λ taken. check-within 18 64 0 some (ltb reader (count (levelsOf sheet)) && requestRight (fieldCount sheet) request) 17 out _ (omega arith)
+      (λ asked. check-within 18 64 0 some (leb (answerLength request) (length out)) 11 out _ (omega arith)
+      (λ room. handed-range (both (ltb reader (count (levelsOf sheet))) _ asked .1))))
+
+  -- so `word-tells` speaks of any two hand-outs
+  pub hand-out-fits :
+      let a = handOut sheet store reader request out .answer in
+      (a .number ≤ 18) × (a .place < 64) × (a .units ≡ 0)
+  hand-out-fits = (handing-range .number, handing-range .place, omega (arith, handing-range .units))

@@ -3,16 +3,18 @@ use Prim.Native.Nat.{ℕ, _-_}
 use mathlib.Core.Bool.{Bool, cond, _&&_}
 use mathlib.Core.List.{List, _++_}
 use lib.ListN.{length, drop}
-use lib.Dec.{leb}
+use lib.Dec.{ltb, leb}
 use Rattle.levels.specs.Levels.{count}
 use Rattle.levels.specs.Lattice.{lattice}
 use Rattle.sheet.specs.Verdict.{numberOf, passesOf}
 use Rattle.sheet.specs.Sections.{levelsOf}
 use Rattle.sheet.specs.Load.{fieldCount, programOf, loadOf, judging}
-use Rattle.flow.specs.Rules as rules
-use Rattle.flow.specs.Rules.{End, done, spent, stopped, exec, running}
-use Rattle.flow.specs.Marks.{Mark, modeOf, joined, entered, stored, marking}
-use Rattle.flow.specs.Stores.{markOf, storeLength, cellAt, storeOf, entryOf, entriesOf, storeBytes, storeFits, markKnown, marksRight}
+use Rattle.rules.specs.Rules as rules
+use Rattle.rules.specs.Rules.{End, done, spent, stopped, exec, running}
+use Rattle.rules.specs.Marks.{Mark, Mode, permissive, modeOf, joined, entered, stored, marking}
+use Rattle.rules.specs.Stores.{markOf, storeLength, cellAt, storeOf, entryOf, entriesOf, storeBytes, storeFits, markKnown, marksRight}
+use Rattle.handout.specs.Requests.{askedCount, requestRight}
+use Rattle.handout.specs.Answers.{firstPartial, answerLength, answerBytes, answering}
 use Rattle.beltuqash.specs.Answer.{Answer, answer}
 
 -- **Load** judges a sheet: numbers 0 to 7. Units are 0 for load, and so is the place of 1 to 7.
@@ -24,9 +26,21 @@ pub record Outcome : Type 0 where
   pub answer : Answer
   pub out : List ℕ
 
--- in order of checks: the first that refuses is told, with place 0 and units 0. A refusal writes nothing.
+-- A refusal writes nothing. Units are 0 for 1 to 11 and for hand-out.
+abbrev pub refuse : ℕ → ℕ → List ℕ → Outcome
+refuse number place out = record { answer = answer number place 0; out = out }
+
+-- in order of checks: the first that refuses is told, with place 0
 abbrev pub check : Bool → ℕ → List ℕ → Outcome → Outcome
-check right number out next = cond right next (record { answer = answer number 0 0; out = out })
+check right number out next = cond right next (refuse number 0 out)
+
+-- 1 to 9, which run and hand-out share
+abbrev pub checkStore : List ℕ → List ℕ → Mode → List ℕ → Outcome → Outcome
+checkStore sheet store mode out next =
+    check (passesOf (loadOf sheet)) (numberOf (loadOf sheet)) out  -- 1 to 7
+    (check (storeFits (fieldCount sheet) store) 8 out  -- store length or count doesn't fit the sheet
+    (check (marksRight mode (count (levelsOf sheet)) (fieldCount sheet) store) 9 out  -- a mark above 31 or its level unknown; in a strict run also a partial mark
+    next))
 
 -- Success writes exactly the store; later bytes stay. With the fuel used up, all of it is spent.
 unfoldable pub ended : ℕ → ℕ → List ℕ → End Mark → Outcome
@@ -44,13 +58,30 @@ runFrom sheet store mode fuel out =
 unfoldable pub run : List ℕ → List ℕ → ℕ → ℕ → List ℕ → Outcome
 run sheet store mode fuel out =
     check (leb mode 1 && leb fuel 1000000) 10 out  -- mode not 0 (strict) or 1 (permissive), or fuel over 1,000,000
-    (check (passesOf (loadOf sheet)) (numberOf (loadOf sheet)) out  -- 1 to 7
-    (check (storeFits (fieldCount sheet) store) 8 out  -- store length or count doesn't fit the sheet
-    (check (marksRight (modeOf mode) (count (levelsOf sheet)) (fieldCount sheet) store) 9 out  -- a mark above 31 or its level unknown; in a strict run also a partial mark
+    (checkStore sheet store (modeOf mode) out  -- 1 to 9
     (check (leb (storeLength (fieldCount sheet)) (length out)) 11 out  -- output shorter than the store
-    (runFrom sheet store mode fuel out)))))
+    (runFrom sheet store mode fuel out)))
+
+-- a right request, handed out from a store that fits. Any partial field asked refuses all of it: 18, first such position in the request.
+-- Success writes exactly the answer; later bytes stay.
+unfoldable pub handed : List ℕ → List ℕ → ℕ → List ℕ → List ℕ → Outcome
+handed sheet store reader request out =
+    cond (ltb (firstPartial (storeOf store) request) (askedCount request))
+    (refuse 18 (firstPartial (storeOf store) request) out)
+    (record {
+      answer = answer 0 0 0;
+      out = answerBytes (lattice (levelsOf sheet)) reader (storeOf store) request ++ drop (answerLength request) out;
+    })
+
+-- **Hand-out** takes sheet, store, reader level and request and writes the dealer's answer.
+unfoldable pub handOut : List ℕ → List ℕ → ℕ → List ℕ → List ℕ → Outcome
+handOut sheet store reader request out =
+    checkStore sheet store permissive out  -- 1 to 9 (any mark it knows)
+    (check (ltb reader (count (levelsOf sheet)) && requestRight (fieldCount sheet) request) 17 out  -- reader unknown, request's size, count or a field number wrong
+    (check (leb (answerLength request) (length out)) 11 out  -- output shorter than the answer
+    (handed sheet store reader request out)))
 
 -- `unfolding calling` opens all of the above and what it cites of sheets, marks and stores, so that a call computes on bytes
 unfoldable pub calling : Unit {0}
-unfolding judging running modeOf joined entered stored markOf cellAt entryOf entriesOf storeBytes storeFits markKnown marksRight load ended runFrom run
+unfolding judging running modeOf joined entered stored markOf cellAt entryOf entriesOf storeBytes storeFits markKnown marksRight answering load ended runFrom run handed handOut
 calling = tt

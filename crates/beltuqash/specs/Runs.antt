@@ -1,4 +1,4 @@
--- What a run is given once all checks have passed. Only contracts inside this crate cite it.
+-- What a run is given once all checks have passed.
 use Prim.Native.Nat.{ℕ, _≤_}
 use mathlib.Core.Path.{_≡_}
 use mathlib.Core.Bool.{true}
@@ -7,8 +7,8 @@ use lib.ListN.{length}
 use Rattle.levels.specs.Levels.{count}
 use Rattle.sheet.specs.Sections.{levelsOf}
 use Rattle.sheet.specs.Load.{fieldCount, Loaded}
-use Rattle.flow.specs.Marks.{modeOf}
-use Rattle.flow.specs.Stores.{storeLength, storeFits, marksRight}
+use Rattle.rules.specs.Marks.{modeOf}
+use Rattle.rules.specs.Stores.{storeLength, storeFits, marksRight}
 
 pub record Given (sheet store : List ℕ) (mode : ℕ) (out : List ℕ) : Type 0 where
   pub loaded : Loaded sheet

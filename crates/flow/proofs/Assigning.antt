@@ -16,16 +16,16 @@ use Rattle.levels.specs.Lattice.{lattice}
 use Rattle.sheet.specs.Nodes.{kindAt, placeAt, kinds, heldIn}
 use Rattle.sheet.specs.Trees.{Exp, Cmd, assign, expAt, cmdAt}
 use Rattle.sheet.proofs.Trees.{held-there, cmdAt-assign}
-use Rattle.flow.specs.Rules.{Why, notBelow, Try, fine, fails, Marking, Cell, cell, Store, put, gives, stops, End, done, stopped}
-use Rattle.flow.specs.Rules.{at, andThen, with, spend, eval, updated, exec}
-use Rattle.flow.specs.Marks.{Mark, marking}
-use Rattle.flow.specs.Stores.{markOf, markKnown}
+use Rattle.rules.specs.Rules.{Why, notBelow, Try, fine, fails, Marking, Cell, cell, Store, put, gives, stops, End, done, stopped}
+use Rattle.rules.specs.Rules.{at, andThen, with, spend, eval, updated, exec}
+use Rattle.rules.specs.Marks.{Mark, marking}
+use Rattle.rules.specs.Stores.{markOf, markKnown}
 use Rattle.flow.specs.Words.{rowsIn, constantsIn, nodesIn, valueIn, markIn, cellIn, workAt, workOf, whyOf, Held, Ready, ExpIn, Evaluated}
 use Rattle.flow.specs.Tasks.{boundsIn, modeIn, contextIn, CmdIn, Assigned}
 use Rattle.flow.proofs.Words.{word-value, word-stop, mark-seen, number-seen, stop-large, stop-number, stop-place, number-stop}
 use Rattle.flow.proofs.Marking.{known-is}
 use Rattle.flow.proofs.Ends.{or-next, or-stopped}
-use Rattle.flow.proofs.Units.{assign-law}
+use Rattle.rules.proofs.Units.{assign-law}
 
 -- ── the cases of an assignment ──────────────────────────────────────────────────────────────
 

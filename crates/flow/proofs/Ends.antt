@@ -6,8 +6,8 @@ use mathlib.Core.Bool.{Bool, true, false}
 use borrow.Author.Tests.{lt-ltb, le-ltb, ne-eqb}
 use mir.Val.{boolByte}
 use Rattle.value.specs.Values.{isTrue}
-use Rattle.flow.specs.Rules.{Store, End, done, spent, stopped, choose}
-use Rattle.flow.specs.Marks.{Mark}
+use Rattle.rules.specs.Rules.{Store, End, done, spent, stopped, choose}
+use Rattle.rules.specs.Marks.{Mark}
 use Rattle.flow.specs.Words.{valueIn, markIn, placeIn, numberIn, whyOf, Numbered}
 use Rattle.flow.specs.Tasks.{orStop, testOf, stopOf, endOf, Told}
 use Rattle.flow.proofs.Words.{stop-number, stop-place}

@@ -1,20 +1,22 @@
--- The byte layout of stores: a mark and its byte, a work store filled from a store, and a store filled from the front.
-use Prim.Native.Nat.{ℕ, zero, suc, _+_, _*_, _%_, _≤_, _<_}
+-- The byte layout of stores: a mark and its byte, a work store filled from a store, the entries of a store, and what is read of them again.
+use Prim.Native.Nat.{ℕ, zero, suc, _+_, _-_, _*_, _%_, _≤_, _<_}
+use native.Mathlib.Nat.{add-zero, mod-eq-of-lt}
 use native.Mathlib.Omega.{arith}
 use native.Mathlib.Numerals.{add-one}
 use native.Mathlib.Decide.{ℕ-discrete}
 use mathlib.Core.Logic.{_≢_}
-use mathlib.Core.Path.{_≡_, refl, sym, ap, ap₂, _∙_, fun-ext}
+use mathlib.Core.Path.{_≡_, refl, sym, ap, _∙_, fun-ext}
 use mathlib.Core.List.{List, [], _∷_, _++_}
-use borrow.Author.Tests.{ltb-true, ltb-false}
+use borrow.Author.Tests.{ltb-true, ltb-false, lt-ltb, le-ltb}
 use lib.Dec.{ltb}
-use lib.ListN.{length, getD, drop, set, replicate, length-append, length-drop, length-replicate, length-set, getD-replicate, List·getD-eq-default}
-use lib.Seq.{sets, sets-eq, take-at, drop-append-add, drop-drop, getD-set-same, getD-set-other, drop-set-lt}
+use lib.ListN.{length, getD, set, replicate, length-append, length-replicate, length-set, getD-replicate, List·getD-eq-default, List·getD-append}
+use lib.Seq.{getD-append-add, getD-set-same, getD-set-other}
+use Rattle.basis.specs.Bytes.{wordAt}
 use Rattle.basis.proofs.Tests.{split}
 use Rattle.value.specs.Bytes.{bytesOf}
-use Rattle.flow.specs.Rules.{Cell, cell, Store}
-use Rattle.flow.specs.Marks.{Mark}
-use Rattle.flow.specs.Stores.{markOf, byteOf, entryAt, markAt, cellAt, storeLength, entryOf, entriesOf, storeBytes}
+use Rattle.rules.specs.Rules.{Cell, cell, Store}
+use Rattle.rules.specs.Marks.{Mark, whole, partial, levelOf}
+use Rattle.rules.specs.Stores.{markOf, byteOf, entryAt, markAt, cellAt, storeLength, entryOf, entriesOf, storeBytes}
 use Rattle.flow.specs.Words.{valueIn, markIn, cellIn, wordBytes, workAt, Fetched}
 
 -- ── marks and their bytes ───────────────────────────────────────────────────────────────────
@@ -22,6 +24,15 @@ use Rattle.flow.specs.Words.{valueIn, markIn, cellIn, wordBytes, workAt,
 byte-back : (m : ℕ) → byteOf (markOf m) ≡ m
 unfolding markOf
 byte-back m = split (ltb m 16) (λ low. rw low) (λ high. rw high (omega (arith, ltb-false m 16 high)))
+
+-- no sheet has a level above 15
+pub mark-back : (m : Mark) → levelOf m < 16 → markOf (byteOf m) ≡ m
+unfolding markOf
+mark-back (whole a) h = rw (lt-ltb a 16 h)
+mark-back (partial a) h =
+    let past : 16 ≤ a + 16 = omega arith in
+    let level : a + 16 - 16 ≡ a = omega arith in
+    rw (le-ltb (a + 16) 16 past, level)
 
 -- the entry of a word is that of its cell
 pub word-entry : (w : ℕ) → wordBytes w ≡ entryOf (cellIn w)
@@ -72,19 +83,22 @@ module _ (store work : List ℕ) (i word : ℕ) (inside : i < 64) (before : Fill
     long = length-set work i word ∙ before .long;
   }
 
--- beyond the fields a store and a work store have zeros
-beyond : (store work : List ℕ) (i : ℕ) → length store ≤ entryAt i → getD work i 0 ≡ 0 → workAt work i ≡ cellAt store i
-unfolding workAt cellAt
-beyond store work i h e =
+-- beyond its fields a store reads as zeros, and so does a work store
+pub past-fields : (store : List ℕ) (i : ℕ) → length store ≤ entryAt i → cellAt store i ≡ cellAt [] 0
+unfolding cellAt
+past-fields store i h =
     let byte : (k : ℕ) → entryAt i ≤ k → getD store k 0 ≡ 0 = λ k more. List·getD-eq-default store 0 (omega arith) in
     rw (
-      e,
       byte (entryAt i) (omega arith),
       byte (entryAt i + 1) (omega arith),
       byte (entryAt i + 2) (omega arith),
       byte (entryAt i + 3) (omega arith),
       byte (entryAt i + 4) (omega arith),
     )
+
+beyond : (store work : List ℕ) (i : ℕ) → length store ≤ entryAt i → getD work i 0 ≡ 0 → workAt work i ≡ cellAt store i
+unfolding workAt cellAt
+beyond store work i h e = rw (e, past-fields store i h)
 
 pub fetch-last : (store work : List ℕ) (fields : ℕ) → length store ≡ storeLength fields → Filling store work fields → Fetched store work
 fetch-last store work fields long filled = record {
@@ -95,56 +109,79 @@ fetch-last store work fields long filled = record {
   long = filled .long;
 }
 
--- a field's word has the field's mark byte
+-- a word that has a field's cell has the field's mark byte
+pub same-mark : (store : List ℕ) (i word : ℕ) → cellIn word ≡ cellAt store i → markIn word ≡ markAt store i
+unfolding cellAt
+same-mark store i word here =
+    let same : markOf (markIn word) ≡ markOf (markAt store i) = cc in
+    sym (byte-back (markIn word)) ∙ ap byteOf same ∙ byte-back (markAt store i)
+
 pub fetched-mark : {store work : List ℕ} → Fetched store work → (i : ℕ) → markIn (getD work i 0) ≡ markAt store i
-unfolding workAt cellAt
-fetched-mark {store} {work} fetched i =
-    let here = ap (λ (σ : Store Mark). σ i) (fetched .is) in
-    let same : markOf (markIn (getD work i 0)) ≡ markOf (markAt store i) = cc in
-    sym (byte-back (markIn (getD work i 0))) ∙ ap byteOf same ∙ byte-back (markAt store i)
+unfolding workAt
+fetched-mark {store} {work} fetched i = same-mark store i (getD work i 0) (ap (λ (σ : Store Mark). σ i) (fetched .is))
 
--- ── a store filled from the front ───────────────────────────────────────────────────────────
+-- ── the entries of a store ──────────────────────────────────────────────────────────────────
 
--- writes behind what is filled
-put-all : (a z vs : List ℕ) (n : ℕ) → length a ≡ n → n + length vs ≤ length z → sets (a ++ drop n z) n vs ≡ (a ++ vs) ++ drop (n + length vs) z
-put-all a z vs n e h =
-    sets-eq vs (a ++ drop n z) n (omega (arith, length-append a (drop n z), length-drop n z))
-    ∙ ap₂ (λ (p q : List ℕ). p ++ vs ++ q) (take-at a (drop n z) n e)
-    (ap (λ (k : ℕ). drop (k + length vs) (a ++ drop n z)) (sym e) ∙ drop-append-add a (drop n z) (length vs) ∙ drop-drop (length vs) n z)
-
-entry-length : (c : Cell Mark) → length (entryOf c) ≡ 5
+pub entry-length : (c : Cell Mark) → length (entryOf c) ≡ 5
 unfolding entryOf bytesOf
 entry-length (cell v m) = refl
 
-entries-length : (σ : Store Mark) (k : ℕ) → length (entriesOf σ k) ≡ k * 5
+module _ (σ : Store Mark) where
+  pub no-entries : entriesOf σ 0 ≡ []
+  unfolding entriesOf
+  no-entries = refl
+
+  pub one-entry-more : (i : ℕ) → entriesOf σ i ++ entryOf (σ i) ≡ entriesOf σ (i + 1)
+  unfolding entriesOf
+  one-entry-more i = ap (entriesOf σ) (sym (add-one i))
+
+pub entries-length : (σ : Store Mark) (k : ℕ) → length (entriesOf σ k) ≡ k * 5
 unfolding entriesOf
 entries-length σ zero = refl
 entries-length σ (suc k) = omega (arith, length-append (entriesOf σ k) (entryOf (σ k)), entries-length σ k, entry-length (σ k))
 
--- the count, then the entries
-abbrev pub filled : ℕ → Store Mark → ℕ → List ℕ → List ℕ
-filled count σ i z = (count ∷ 0 ∷ entriesOf σ i) ++ drop (entryAt i) z
+-- ── a store that was written, read back ─────────────────────────────────────────────────────
 
--- the count's two bytes change nothing behind them
-abbrev pub headed : ℕ → List ℕ → List ℕ
-headed count z = set (set z 0 count) 1 0
-
-rest : (count i : ℕ) (z : List ℕ) → drop (entryAt i) (headed count z) ≡ drop (entryAt i) z
-rest count i z = drop-set-lt (entryAt i) (set z 0 count) 1 0 (omega arith) ∙ drop-set-lt (entryAt i) z 0 count (omega arith)
-
-pub fill-first : (count : ℕ) (σ : Store Mark) (z : List ℕ) → 2 ≤ length z → headed count z ≡ filled count σ 0 (headed count z)
-unfolding entriesOf
-fill-first count σ z h = put-all [] z (count ∷ 0 ∷ []) 0 refl h ∙ ap (λ (l : List ℕ). count ∷ 0 ∷ l) (sym (rest count 0 z))
-
-pub fill-next : (count : ℕ) (σ : Store Mark) (i : ℕ) (z : List ℕ) → entryAt i + 5 ≤ length z → sets (filled count σ i z) (entryAt i) (entryOf (σ i)) ≡ filled count σ (i + 1) z
-unfolding entriesOf
-fill-next count σ i z h =
-    let five = entry-length (σ i) in
-    let next : entryAt i + length (entryOf (σ i)) ≡ entryAt (i + 1) = omega arith in
-    put-all (count ∷ 0 ∷ entriesOf σ i) z (entryOf (σ i)) (entryAt i) (omega (arith, entries-length σ i)) (omega arith)
-    ∙ ap (λ (k : ℕ). (count ∷ 0 ∷ (entriesOf σ i ++ entryOf (σ i))) ++ drop k z) next
-    ∙ ap (λ (k : ℕ). (count ∷ 0 ∷ entriesOf σ k) ++ drop (entryAt (i + 1)) z) (sym (add-one i))
-
-pub fill-last : (count : ℕ) (σ : Store Mark) (fields : ℕ) (z : List ℕ) → filled (fields % 256) σ fields (headed count z) ≡ storeBytes σ fields ++ drop (storeLength fields) z
+pub store-length : (σ : Store Mark) (fields : ℕ) → length (storeBytes σ fields) ≡ storeLength fields
 unfolding storeBytes
-fill-last count σ fields z = ap (λ (l : List ℕ). storeBytes σ fields ++ l) (rest count fields z)
+store-length σ fields = omega (arith, entries-length σ fields)
+
+-- its count, if the count fits a byte
+pub count-back : (σ : Store Mark) (fields : ℕ) → fields < 256 → wordAt (storeBytes σ fields) 0 ≡ fields
+unfolding storeBytes
+count-back σ fields h = omega (arith, mod-eq-of-lt h)
+
+-- byte j of field i's entry
+entries-at : (σ : Store Mark) (k i j : ℕ) → i < k → j < 5 → getD (entriesOf σ k) (i * 5 + j) 0 ≡ getD (entryOf (σ i)) j 0
+unfolding entriesOf
+entries-at σ zero i j h few = absurd (omega arith)
+entries-at σ (suc k) i j h few = go (ℕ-discrete i k) (entries-at σ k i j)
+  where
+    go : Dec (i ≡ k) → (i < k → j < 5 → getD (entriesOf σ k) (i * 5 + j) 0 ≡ getD (entryOf (σ i)) j 0)
+        → getD (entriesOf σ k ++ entryOf (σ k)) (i * 5 + j) 0 ≡ getD (entryOf (σ i)) j 0
+    go (yes e) before =
+        let here : i * 5 + j ≡ length (entriesOf σ k) + j = omega (arith, entries-length σ k, e) in
+        rw (here, e) (getD-append-add (entriesOf σ k) (entryOf (σ k)) j 0)
+    go (no ne) before =
+        let less : i < k = omega (arith, ne) in
+        List·getD-append (entriesOf σ k) (entryOf (σ k)) 0 (i * 5 + j) (omega (arith, entries-length σ k)) ∙ before less few
+
+store-at : (σ : Store Mark) (fields i j : ℕ) → i < fields → j < 5 → getD (storeBytes σ fields) (entryAt i + j) 0 ≡ getD (entryOf (σ i)) j 0
+unfolding storeBytes
+store-at σ fields i j h few =
+    let place : entryAt i + j ≡ 2 + (i * 5 + j) = omega arith in
+    ap (λ (k : ℕ). getD (storeBytes σ fields) k 0) place
+    ∙ getD-append-add (fields % 256 ∷ 0 ∷ []) (entriesOf σ fields) (i * 5 + j) 0
+    ∙ entries-at σ fields i j h few
+
+-- a field is what its own entry says
+pub entry-back : (σ : Store Mark) (fields i : ℕ) → i < fields → cellAt (storeBytes σ fields) i ≡ cellAt (0 ∷ 0 ∷ entryOf (σ i)) 0
+unfolding cellAt
+entry-back σ fields i h =
+    rw (
+      rw (add-zero (entryAt i)) at (store-at σ fields i 0 h (omega arith)),
+      store-at σ fields i 1 h (omega arith),
+      store-at σ fields i 2 h (omega arith),
+      store-at σ fields i 3 h (omega arith),
+      store-at σ fields i 4 h (omega arith),
+    )

@@ -14,10 +14,10 @@ use Rattle.levels.specs.Lattice.{Lattice, lattice}
 use Rattle.sheet.specs.Nodes.{In, kindAt, opAt, placeAt, kinds, heldIn, ExpBelow, WellFormed}
 use Rattle.sheet.specs.Trees.{constantAt, expAt}
 use Rattle.sheet.proofs.Trees.{held-there, expAt-constant, expAt-field, expAt-operator, expAt-not, expAt-seal}
-use Rattle.flow.specs.Rules.{Why, outOfRange, divisorZero, Cell, cell, Store, Result, gives, stops, at, andThen, computed}
-use Rattle.flow.specs.Rules.{reading, operated, inverted, sealing, eval}
-use Rattle.flow.specs.Marks.{Mark, whole, Mode, joined, marking}
-use Rattle.flow.specs.Stores.{markOf, markKnown}
+use Rattle.rules.specs.Rules.{Why, outOfRange, divisorZero, Cell, cell, Store, Result, gives, stops, at, andThen, computed}
+use Rattle.rules.specs.Rules.{reading, operated, inverted, sealing, eval}
+use Rattle.rules.specs.Marks.{Mark, whole, Mode, joined, marking}
+use Rattle.rules.specs.Stores.{markOf, markKnown}
 use Rattle.flow.specs.Words.{rowsIn, constantsIn, nodesIn, valueIn, markIn, cellIn, workAt, workOf, placeIn, numberIn, whyOf, ExpIn, Evaluated, Operated}
 use Rattle.flow.proofs.Words.{word-value, known-seen, number-seen, word-stop}
 use Rattle.flow.proofs.Marking.{bot-mark, top-mark}

@@ -6,16 +6,16 @@ use mathlib.Core.Bool.{true, false, _&&_, true≢false}
 use mathlib.Core.List.{List}
 use borrow.Author.Tests.{lt-ltb, le-ltb, ltb-true, ltb-false, leb-true, le-leb, ne-eqb}
 use lib.Dec.{ltb}
-use Rattle.basis.proofs.Tests.{both, and-of, split}
+use Rattle.basis.proofs.Tests.{both, and-of, split, all-at}
 use Rattle.levels.specs.Levels.{count, below, right, joinOf, meetOf, lowestOf, highestOf}
 use Rattle.levels.specs.Lattice.{Lattice, lattice}
 use Rattle.levels.proofs.Joins.{join-idem}
 use Rattle.levels.proofs.Laws.{laws, le-at, join-at, meet-at}
 use Rattle.levels.proofs.Facts.{facts}
 use Rattle.levels.proofs.Bounds.{lowest-is, highest-is}
-use Rattle.flow.specs.Rules.{notBelow, Try, fine, fails}
-use Rattle.flow.specs.Marks.{Mark, whole, partial, strict, permissive, modeOf, levelOf, joined, stored}
-use Rattle.flow.specs.Stores.{markOf, markKnown}
+use Rattle.rules.specs.Rules.{notBelow, Try, fine, fails}
+use Rattle.rules.specs.Marks.{Mark, whole, partial, Mode, strict, permissive, modeOf, levelOf, joined, stored}
+use Rattle.rules.specs.Stores.{markOf, markAt, markKnown, markTaken, marksRight}
 
 -- a known mark is at most 31 and has a level
 pub known-is : (levels byte : ℕ) → markKnown levels byte ≡ true → (byte ≤ 31) × (byte % 16 < levels)
@@ -25,6 +25,16 @@ known-is levels byte h = let (few, level) = both _ _ h in (leb-true _ _ few, ltb
 pub known-of : (levels byte : ℕ) → byte ≤ 31 → byte % 16 < levels → markKnown levels byte ≡ true
 unfolding markKnown
 known-of levels byte few level = and-of (le-leb _ _ few) (lt-ltb _ _ level)
+
+-- a mark that a run takes is known
+taken-known : (mode : Mode) (levels byte : ℕ) → markTaken mode levels byte ≡ true → markKnown levels byte ≡ true
+taken-known strict levels byte e = both _ _ e .0
+taken-known permissive levels byte e = e
+
+pub marks-known : (mode : Mode) (levels fields : ℕ) (store : List ℕ) → marksRight mode levels fields store ≡ true
+    → (i : ℕ) → i < fields → markKnown levels (markAt store i) ≡ true
+unfolding marksRight
+marks-known mode levels fields store e i h = taken-known mode levels _ (all-at fields (λ i. markTaken mode levels (markAt store i)) e i h)
 
 pub mark-whole : (byte : ℕ) → byte < 16 → markOf byte ≡ whole byte
 unfolding markOf

@@ -14,11 +14,11 @@ use Rattle.levels.specs.Lattice.{lattice}
 use Rattle.sheet.specs.Nodes.{kindAt, placeAt, kinds, heldIn, CmdBelow}
 use Rattle.sheet.specs.Trees.{expAt, cmdAt}
 use Rattle.sheet.proofs.Trees.{held-there, cmdAt-skip, cmdAt-assign, cmdAt-sequence, cmdAt-if, cmdAt-while}
-use Rattle.flow.specs.Rules.{Store, End, done, spent, spend, bind, tested, exec}
-use Rattle.flow.specs.Marks.{Mark, marking}
+use Rattle.rules.specs.Rules.{Store, End, done, spent, spend, bind, tested, exec}
+use Rattle.rules.specs.Marks.{Mark, marking}
 use Rattle.flow.specs.Words.{rowsIn, constantsIn, nodesIn, valueIn, markIn, numberIn, workOf, Ready}
 use Rattle.flow.specs.Tasks.{boundsIn, modeIn, contextIn, SameRun, testOf, stopOf, endOf, Told, CmdIn, Tested, Assigned, Ran}
-use Rattle.flow.proofs.Units.{skip-law, assign-law, sequence-law, if-law, while-law, units-done}
+use Rattle.rules.proofs.Units.{skip-law, assign-law, sequence-law, if-law, while-law, units-done}
 use Rattle.flow.proofs.Words.{stop-large}
 use Rattle.flow.proofs.Ends.{end-done, end-stop, end-left, or-next, or-stopped, test-stopped, test-yes, test-no, stop-spent, told-spent, stop-handed, told-handed}
 

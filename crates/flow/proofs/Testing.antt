@@ -14,9 +14,9 @@ use Rattle.levels.specs.Lattice.{Lattice, lattice}
 use Rattle.sheet.specs.Nodes.{In, kindAt, placeAt, kinds, heldIn, ExpBelow, WellFormed}
 use Rattle.sheet.specs.Trees.{Exp, expAt}
 use Rattle.sheet.proofs.Trees.{held-there}
-use Rattle.flow.specs.Rules.{Why, partialTest, Cell, cell, Store, Result, gives, stops, End, stopped, at, with, choose, spend, eval, branch, tested}
-use Rattle.flow.specs.Marks.{Mark, whole, partial, Mode, joined, entered, marking}
-use Rattle.flow.specs.Stores.{markOf, markKnown}
+use Rattle.rules.specs.Rules.{Why, partialTest, Cell, cell, Store, Result, gives, stops, End, stopped, at, with, choose, spend, eval, branch, tested}
+use Rattle.rules.specs.Marks.{Mark, whole, partial, Mode, joined, entered, marking}
+use Rattle.rules.specs.Stores.{markOf, markKnown}
 use Rattle.flow.specs.Words.{rowsIn, constantsIn, nodesIn, valueIn, markIn, cellIn, workOf, whyOf, resultOf, Numbered, ExpIn}
 use Rattle.flow.specs.Tasks.{boundsIn, modeIn, contextIn, CmdIn, Tested}
 use Rattle.flow.proofs.Words.{word-value, word-stop, mark-seen, number-seen, stop-large, stop-number, stop-place, number-stop}

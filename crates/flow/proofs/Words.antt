@@ -11,8 +11,8 @@ use mir.Val.{SFits}
 use mir.Facts.{toZ-ofZ, fits-ofZ}
 use Rattle.levels.specs.Levels.{count}
 use Rattle.value.specs.Bytes.{ofBits, bitsOf}
-use Rattle.flow.specs.Rules.{gives, stops, cell}
-use Rattle.flow.specs.Stores.{markOf, markKnown}
+use Rattle.rules.specs.Rules.{gives, stops, cell}
+use Rattle.rules.specs.Stores.{markOf, markKnown}
 use Rattle.flow.specs.Words.{markIn, cellIn, placeIn, numberIn, whyOf, resultOf, Known, Numbered}
 use Rattle.flow.proofs.Marking.{known-is}
 

@@ -9,9 +9,9 @@ use Rattle.levels.specs.Levels.{count, right, lowestOf, highestOf}
 use Rattle.levels.specs.Lattice.{lattice}
 use Rattle.sheet.specs.Nodes.{In, kindAt, placeAt}
 use Rattle.sheet.specs.Trees.{expAt, cmdAt}
-use Rattle.flow.specs.Rules.{Store, End, done, spent, stopped, choose, tested, exec}
-use Rattle.flow.specs.Marks.{Mark, Mode, modeOf, marking}
-use Rattle.flow.specs.Stores.{markKnown}
+use Rattle.rules.specs.Rules.{Store, End, done, spent, stopped, choose, tested, exec}
+use Rattle.rules.specs.Marks.{Mark, Mode, modeOf, marking}
+use Rattle.rules.specs.Stores.{markKnown}
 use Rattle.flow.specs.Words.{rowsIn, constantsIn, nodesIn, valueIn, markIn, placeIn, numberIn, workOf, whyOf, Numbered, Ready}
 
 -- a task: bits 0 to 7 BOT and, 16 times, TOP; from bit 8 the mode; from bit 16 the context

@@ -9,11 +9,11 @@ use Rattle.value.specs.Bytes.{ofBits, bytesOf}
 use Rattle.value.specs.declared.Value.{Value}
 use Rattle.levels.specs.Levels.{count, right, lowestOf, highestOf}
 use Rattle.levels.specs.Lattice.{lattice}
-use Rattle.flow.specs.Rules.{Why, outOfRange, divisorZero, notBelow, partialTest, Result, gives, stops, Cell, cell, Store, operated, eval}
-use Rattle.flow.specs.Marks.{Mark, Mode, marking}
+use Rattle.rules.specs.Rules.{Why, outOfRange, divisorZero, notBelow, partialTest, Result, gives, stops, Cell, cell, Store, operated, eval}
+use Rattle.rules.specs.Marks.{Mark, Mode, marking}
 use Rattle.sheet.specs.Nodes.{In, kindAt, opAt, WellFormed}
 use Rattle.sheet.specs.Trees.{expAt}
-use Rattle.flow.specs.Stores.{markOf, markKnown, storeOf}
+use Rattle.rules.specs.Stores.{markOf, markKnown, storeOf}
 
 -- the parts of a sheet that a run reads: its order rows, its constants and its nodes
 abbrev pub rowsIn : List (List ℕ) → List ℕ

@@ -12,9 +12,9 @@ ghost use Prim.Native.Nat.{_+_, _*_, _/_, _<_};
 ghost use Rattle.levels.specs.Levels.{count};
 ghost use Rattle.levels.specs.Lattice.{lattice};
 ghost use Rattle.sheet.specs.Nodes.{In};
-ghost use Rattle.flow.specs.Rules.{cell};
-ghost use Rattle.flow.specs.Marks.{joined};
-ghost use Rattle.flow.specs.Stores.{markOf, markKnown};
+ghost use Rattle.rules.specs.Rules.{cell};
+ghost use Rattle.rules.specs.Marks.{joined};
+ghost use Rattle.rules.specs.Stores.{markOf, markKnown};
 ghost use Rattle.flow.specs.Words.{rowsIn, nodesIn, cellIn, valueIn, markIn, Marks, Operated};
 
 // Words from here on are stops.

@@ -5,8 +5,8 @@ ghost use mathlib.Core.Bool.{true};
 ghost use Prim.Native.Nat.{_≤_};
 ghost use Rattle.levels.specs.Levels.{count, right};
 ghost use Rattle.levels.specs.Lattice.{lattice};
-ghost use Rattle.flow.specs.Marks.{whole, partial, levelOf, joined};
-ghost use Rattle.flow.specs.Stores.{markOf, markKnown};
+ghost use Rattle.rules.specs.Marks.{whole, partial, levelOf, joined};
+ghost use Rattle.rules.specs.Stores.{markOf, markKnown};
 ghost use Rattle.flow.specs.Tasks.{contextIn, SameRun, First, InContext};
 
 // The context of a task.

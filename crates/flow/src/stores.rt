@@ -5,13 +5,14 @@ use crate::cells::seen;
 use crate::cells::value_in;
 use value::Value;
 ghost use mathlib.Core.Path.{_≡_};
-ghost use mathlib.Core.List.{_++_};
+ghost use mathlib.Core.List.{_∷_, _++_};
 ghost use Prim.Native.Nat.{_+_, _≤_, _<_};
 ghost use lib.ListN.{length, replicate, drop};
 ghost use lib.Seq.{sets};
-ghost use Rattle.flow.specs.Stores.{entryAt, storeLength, cellAt, storeBytes, storeFits, markTaken, marksRight};
-ghost use Rattle.flow.specs.Marks.{modeOf};
-ghost use Rattle.flow.specs.Words.{cellIn, wordBytes, workOf, Fetched};
+ghost use Rattle.value.specs.Bytes.{bytesOf};
+ghost use Rattle.rules.specs.Stores.{entryAt, storeLength, cellAt, storeBytes, storeFits, markTaken, marksRight};
+ghost use Rattle.rules.specs.Marks.{modeOf};
+ghost use Rattle.flow.specs.Words.{cellIn, workOf, Fetched};
 
 // Whether a store's length and count are those of so many fields.
 pub fn fits(store: &[u8], fields: usize) -> bool
@@ -52,7 +53,7 @@ pub fn marks_right(store: &[u8], mode: u32, levels: usize, fields: usize) -> boo
 }
 
 // Field i of a store, its value with its mark.
-fn entry_at(store: &[u8], i: usize) -> u64
+pub fn entry_at(store: &[u8], i: usize) -> u64
     requires { ⌜ entryAt i + 5 ≤ length (now store) ⌝ }
     ensures { λ r. ⌜ (cellIn r ≡ cellAt (now (store .entry)) i) × (r < 9223372036854775808) ⌝ }
 {
@@ -75,13 +76,13 @@ pub fn fetch(store: &[u8], work: &mut [u64; 64], fields: usize)
     }
 }
 
-// Writes the value and the mark in a word as an entry, from place `at` on.
-fn put_entry(out: &mut [u8], at: usize, word: u64)
+// Writes an entry, a byte and a value, from place `at` on.
+pub fn put_entry(out: &mut [u8], at: usize, byte: u8, v: Value)
     requires { ⌜ at + 5 ≤ length (now out) ⌝ }
-    ensures { λ _. ⌜ now (out .exit) ≡ sets (now (out .entry)) at (wordBytes word) ⌝ }
+    ensures { λ _. ⌜ now (out .exit) ≡ sets (now (out .entry)) at (byte ∷ bytesOf (v .n)) ⌝ }
 {
-    let bytes = value_in(word).to_bytes();
-    out[at] = mark_in(word);
+    let bytes = v.to_bytes();
+    out[at] = byte;
     out[at + 1] = bytes[0];
     out[at + 2] = bytes[1];
     out[at + 3] = bytes[2];
@@ -97,7 +98,8 @@ pub fn deliver(work: &[u64; 64], out: &mut [u8], fields: usize)
     out[1] = 0;
     let mut i = 0;
     while i < fields {
-        put_entry(out, 2 + i * 5, work[i]);
+        let word = work[i];
+        put_entry(out, 2 + i * 5, mark_in(word), value_in(word));
         i += 1;
     }
 }

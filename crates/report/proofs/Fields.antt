@@ -7,7 +7,7 @@ use lib.ListN.{getD}
 use borrow.Author.Tests.{lt-ltb, le-ltb, eq-eqb, ne-eqb}
 use Rattle.basis.specs.Bytes.{wordAt}
 use Rattle.value.specs.Bytes.{ofBits}
-use Rattle.flow.specs.Stores.{markOf, markAt, cellAt, entryAt}
+use Rattle.rules.specs.Stores.{markOf, markAt, cellAt, entryAt}
 use Rattle.report.specs.Text.{blank, wholeWord, partialWord, decimal, signed, shown, markText, cellText}
 
 pub shown-none : (b : ℕ) → b ≡ 0 → shown b ≡ []

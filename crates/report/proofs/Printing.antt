@@ -9,7 +9,7 @@ use borrow.Author.Tests.{eq-eqb, ne-eqb}
 use lib.ListN.{length, getD, length-append}
 use Rattle.value.specs.Bytes.{ofBits}
 use Rattle.sheet.specs.Names.{nameByte}
-use Rattle.flow.specs.Stores.{markOf, markAt, entryAt}
+use Rattle.rules.specs.Stores.{markOf, markAt, entryAt}
 use Rattle.basis.specs.Bytes.{wordAt}
 use Rattle.report.specs.Text.{each, decimal, part, signed, shown, nameOf, markText, fieldLine, doneText, refusedText, printed}
 use Rattle.report.proofs.Digits.{decimal-one, decimal-more, signed-whole, signed-minus}

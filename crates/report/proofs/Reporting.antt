@@ -7,7 +7,8 @@ use mathlib.Core.List.{List}
 use lib.ListN.{length, replicate}
 use Rattle.sheet.specs.Sections.{fieldsOf}
 use Rattle.beltuqash.specs.Answer.{wordOf}
-use Rattle.beltuqash.proofs.Running.{done-loaded, fields-long}
+use Rattle.beltuqash.proofs.Checking.{fields-long}
+use Rattle.beltuqash.proofs.Running.{done-loaded}
 use Rattle.beltuqash.proofs.Unique.{number-told, run-fits}
 use Rattle.report.specs.File.{modeIn, fuelIn, sheetIn, storeIn, isCut}
 use Rattle.report.specs.Putting.{Begins}

@@ -6,9 +6,9 @@ use Rattle.basis.specs.Tests.{all}
 use Rattle.value.specs.Values.{operating}
 use Rattle.value.specs.Bytes.{ofBits, bitsOf, bytesOf}
 use Rattle.sheet.specs.Load.{judging}
-use Rattle.flow.specs.Rules.{running}
-use Rattle.flow.specs.Marks.{modeOf, joined, entered, stored}
-use Rattle.flow.specs.Stores.{markOf, cellAt, entryOf, entriesOf, storeBytes, storeFits, markKnown, marksRight}
+use Rattle.rules.specs.Rules.{running}
+use Rattle.rules.specs.Marks.{modeOf, joined, entered, stored}
+use Rattle.rules.specs.Stores.{markOf, cellAt, entryOf, entriesOf, storeBytes, storeFits, markKnown, marksRight}
 use Rattle.beltuqash.specs.Calls.{ended, runFrom, run}
 use Rattle.report.specs.File.{sheetIn, storeIn, isCut}
 use Rattle.report.specs.Text.{doneWord, wholeWord, each, digitsWithin, decimal, part, signed, shown, nameOf, markText, cellText, fieldLine, doneText, printed}

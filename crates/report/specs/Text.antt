@@ -6,9 +6,9 @@ use lib.ListN.{length}
 use lib.Dec.{eqb, ltb}
 use lib.IntN.{ℤ, pos, negsuc}
 use Rattle.sheet.specs.Names.{nameByte}
-use Rattle.flow.specs.Rules.{Cell, cell}
-use Rattle.flow.specs.Marks.{Mark, whole, partial}
-use Rattle.flow.specs.Stores.{cellAt}
+use Rattle.rules.specs.Rules.{Cell, cell}
+use Rattle.rules.specs.Marks.{Mark, whole, partial}
+use Rattle.rules.specs.Stores.{cellAt}
 
 -- Parts of a line stand one blank apart, each line ends in LF,
 abbrev pub blank : List ℕ

@@ -6,7 +6,7 @@ use crate::number::put_text;
 ghost use Prim.Native.Nat.{_+_, _*_, _≤_};
 ghost use lib.ListN.{length};
 ghost use Rattle.sheet.specs.Names.{NameIn};
-ghost use Rattle.flow.specs.Stores.{markOf, cellAt, storeLength};
+ghost use Rattle.rules.specs.Stores.{markOf, cellAt, storeLength};
 ghost use Rattle.report.specs.Putting.{Room, Put};
 ghost use Rattle.report.specs.Text.{shown, nameOf, markText, cellText, fieldLine, fieldLines};
 

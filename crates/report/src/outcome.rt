@@ -6,7 +6,7 @@ use crate::number::put_text;
 ghost use Prim.Native.Nat.{_≤_, _*_, _/_, _%_};
 ghost use mathlib.Core.Path.{_≡_};
 ghost use lib.ListN.{length};
-ghost use Rattle.flow.specs.Stores.{storeLength};
+ghost use Rattle.rules.specs.Stores.{storeLength};
 ghost use Rattle.report.specs.Putting.{Room, Put, Begins};
 ghost use Rattle.report.specs.Text.{doneText, refusedText, printed};
 

@@ -1,4 +1,4 @@
--- Document 01's flag sheet, byte for byte as in examples/flag.sheet, and the stores that it is run from.
+-- Document 01's flag sheet, byte for byte as in examples/flag.sheet, the same with a seal in its last test, and the stores that they are run from.
 --   flag := 0; q := 0; if cost < 500 then flag := 1 else skip; if flag = 0 then q := 1 else skip
 use Prim.Native.Nat.{ℕ, _/_, _%_}
 use mathlib.Core.List.{List, [], _∷_, _++_}
@@ -7,8 +7,9 @@ use mathlib.Core.List.{List, [], _∷_, _++_}
 abbrev node : ℕ → ℕ → ℕ → ℕ → ℕ → List ℕ
 node kind op a b c = kind ∷ op ∷ a ∷ 0 ∷ b ∷ 0 ∷ c ∷ 0 ∷ []
 
-unfoldable pub flagSheet : List ℕ
-flagSheet =
+-- what both have ahead of their nodes
+abbrev opening : List ℕ
+opening =
     (2 ∷ 0 ∷ 3 ∷ 0 ∷ 2 ∷ 0 ∷ [])  -- two levels: rows 3, 2
     ++ (3 ∷ 0 ∷ [])  -- three fields
     ++ (102 ∷ 108 ∷ 97 ∷ 103 ∷ 0 ∷ 0 ∷ 0 ∷ 0 ∷ [])  -- field 0: flag
@@ -18,8 +19,11 @@ flagSheet =
     ++ (0 ∷ 0 ∷ 0 ∷ 0 ∷ [])  -- constant 0: 0
     ++ (1 ∷ 0 ∷ 0 ∷ 0 ∷ [])  -- constant 1: 1
     ++ (244 ∷ 1 ∷ 0 ∷ 0 ∷ [])  -- constant 2: 500
-    ++ (21 ∷ 0 ∷ [])  -- 21 nodes
-    ++ node 0 0 0 0 0  -- 0: 0
+
+-- and their first nodes
+abbrev firstNodes : List ℕ
+firstNodes =
+    node 0 0 0 0 0  -- 0: 0
     ++ node 6 0 0 0 0  -- 1: flag := 0
     ++ node 0 0 0 0 0  -- 2: 0
     ++ node 6 0 1 2 0  -- 3: q := 0
@@ -31,6 +35,12 @@ flagSheet =
     ++ node 5 0 0 0 0  -- 9: skip
     ++ node 8 0 6 8 9  -- 10: if cost < 500 then flag := 1 else skip
     ++ node 1 0 0 0 0  -- 11: flag
+
+unfoldable pub flagSheet : List ℕ
+flagSheet =
+    opening
+    ++ (21 ∷ 0 ∷ [])  -- 21 nodes
+    ++ firstNodes
     ++ node 0 0 0 0 0  -- 12: 0
     ++ node 2 5 11 12 0  -- 13: flag = 0
     ++ node 0 0 1 0 0  -- 14: 1
@@ -40,6 +50,23 @@ flagSheet =
     ++ node 7 0 10 17 0  -- 18: node 10, then node 17
     ++ node 7 0 3 18 0  -- 19: node 3, then node 18
     ++ node 7 0 1 19 0  -- 20: node 1, then node 19
+
+-- with seal(flag) = 0 in the last test
+unfoldable pub sealedSheet : List ℕ
+sealedSheet =
+    opening
+    ++ (22 ∷ 0 ∷ [])  -- 22 nodes
+    ++ firstNodes
+    ++ node 4 0 11 0 0  -- 12: seal(flag)
+    ++ node 0 0 0 0 0  -- 13: 0
+    ++ node 2 5 12 13 0  -- 14: seal(flag) = 0
+    ++ node 0 0 1 0 0  -- 15: 1
+    ++ node 6 0 1 15 0  -- 16: q := 1
+    ++ node 5 0 0 0 0  -- 17: skip
+    ++ node 8 0 14 16 17  -- 18: if seal(flag) = 0 then q := 1 else skip
+    ++ node 7 0 10 18 0  -- 19: node 10, then node 18
+    ++ node 7 0 3 19 0  -- 20: node 3, then node 19
+    ++ node 7 0 1 20 0  -- 21: node 1, then node 20
 
 -- Cost at level 1, others 0; all are whole, and flag and q hold 0.
 unfoldable pub storeAt : ℕ → List ℕ

@@ -1,3 +1,8 @@
--- Theorems about the whole, over the definitions that the exported calls cite.
+-- Theorems about the whole, over the definitions that the exported calls cite: demand 3 (`Secrecy`), the published rules (`Published`), what demand 2
+-- shuts out (`ShutOut`), and document 01's table of proved trials (`Trials`, `Sealed`).
+pub mod Secrecy
+pub mod Published
 pub mod Flag
+pub mod ShutOut
 pub mod Trials
+pub mod Sealed

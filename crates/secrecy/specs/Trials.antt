@@ -8,9 +8,9 @@ use Rattle.value.specs.Values.{operatorOf, numberOf, operating}
 use Rattle.value.specs.declared.Computed.{Computed}
 use Rattle.value.specs.declared.Computed.the-variants.{Is, OutOfRange, DivisorZero}
 use Rattle.levels.specs.Lattice.{lattice}
-use Rattle.flow.specs.Rules as rules
-use Rattle.flow.specs.Rules.{Try, fine, fails}
-use Rattle.flow.specs.Marks.{Mark, whole, partial, permissive, marking}
+use Rattle.rules.specs.Rules as rules
+use Rattle.rules.specs.Rules.{Try, fine, fails}
+use Rattle.rules.specs.Marks.{Mark, whole, partial, permissive, marking}
 use Rattle.beltuqash.specs.Answer.{Answer, answer}
 use Rattle.beltuqash.specs.Calls.{load, run, calling}
 use Rattle.secrecy.specs.Flag.{flagSheet, storeAt}

@@ -1,13 +1,16 @@
 //! The comparison of the model with others, up to the first difference: its load
-//! with any judge of sheets, its run with any runner of calls.
+//! with any judge of sheets, its run and hand-out with whoever answers such calls.
 
+pub mod calls;
+pub mod effect;
+pub mod hand_out;
 pub mod load;
 pub mod run;
 
 use std::fmt;
 
 /// Writes a line of bytes in hex under their name.
-fn hex(out: &mut fmt::Formatter, name: &str, bytes: &[u8]) -> fmt::Result {
+pub fn hex(out: &mut fmt::Formatter, name: &str, bytes: &[u8]) -> fmt::Result {
     write!(out, "{name}, {} bytes: ", bytes.len())?;
     bytes
         .iter()

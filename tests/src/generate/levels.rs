@@ -155,6 +155,11 @@ pub fn lattice(random: &mut Random) -> Order {
     permuted(&order, random)
 }
 
+/// Two levels side by side between a bottom and a top.
+pub fn diamond(random: &mut Random) -> Order {
+    permuted(&product(&chain(2), &chain(2)), random)
+}
+
 /// A lattice of one to eight levels, most often with levels side by side.
 pub fn small_lattice(random: &mut Random) -> Order {
     let order = match random.below(16) {

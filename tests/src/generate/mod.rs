@@ -8,6 +8,7 @@ mod garbage;
 mod levels;
 mod names;
 mod numbering;
+pub mod pairs;
 mod tiny;
 mod tree;
 mod valid;
@@ -27,7 +28,11 @@ pub struct Case {
 
 /// The sheet of this index in the run of this seed.
 pub fn case(seed: u64, index: u64) -> Case {
-    let random = &mut Random::of_sheet(seed, index);
+    any(&mut Random::of_sheet(seed, index))
+}
+
+/// A sheet of any kind.
+fn any(random: &mut Random) -> Case {
     match random.below(100) {
         0..25 => Case {
             bytes: write::bytes(&valid::sheet(random)),

@@ -25,7 +25,7 @@ pub mod number {
     pub const MARK: u8 = 9;
     /// Row 10: mode not 0 (strict) or 1 (permissive), or fuel over 1,000,000.
     pub const MODE_OR_FUEL: u8 = 10;
-    /// Row 11: output shorter than the store.
+    /// Row 11: output shorter than the store or answer.
     pub const OUTPUT: u8 = 11;
     /// Row 12: fuel used up.
     pub const FUEL_USED_UP: u8 = 12;
@@ -37,6 +37,10 @@ pub mod number {
     pub const CONTEXT: u8 = 15;
     /// Row 16: permissive: partial test.
     pub const PARTIAL_TEST: u8 = 16;
+    /// Row 17: hand-out: reader unknown, request's size, count or a field number wrong.
+    pub const REQUEST: u8 = 17;
+    /// Row 18: hand-out: partial field asked.
+    pub const PARTIAL_ASKED: u8 = 18;
 }
 
 /// The answer of a call.

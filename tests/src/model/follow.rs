@@ -21,6 +21,9 @@ fn at<T>(place: usize, result: Result<T, u8>) -> Result<T, Stop> {
     result.map_err(|number| Stop { number, place })
 }
 
+/// Odd, so that two ways hardly ever have the same number.
+const WAY_STEP: u64 = 0x9e37_79b9_7f4a_7c15;
+
 /// A run under way.
 pub struct Run<'a> {
     rules: &'a Rules,
@@ -29,6 +32,8 @@ pub struct Run<'a> {
     context: usize,
     pub fuel_left: u32,
     pub store: Store,
+    /// The way so far: which tests were met, and how each came out, in one number.
+    pub way: u64,
 }
 
 impl<'a> Run<'a> {
@@ -40,6 +45,7 @@ impl<'a> Run<'a> {
             context: (rules.first_context)(&start.sheet.levels),
             fuel_left: start.fuel,
             store: start.store.clone(),
+            way: 0,
         }
     }
 }
@@ -141,7 +147,7 @@ impl Run<'_> {
         let Marked { value, mark } = self.expression(test)?;
         let context = (self.rules.context_of_body)(&self.sheet.levels, self.context, mark);
         self.context = at(node, context)?;
-        Ok((self.rules.is_true)(value))
+        Ok(self.branch(node, value))
     }
 
     /// The same for each later test of a while.
@@ -150,7 +156,15 @@ impl Run<'_> {
         let contexts = self.contexts(old);
         let context = (self.rules.context_of_next_round)(&self.sheet.levels, contexts, mark);
         self.context = at(node, context)?;
-        Ok((self.rules.is_true)(value))
+        Ok(self.branch(node, value))
+    }
+
+    /// Says whether a test of this value is true, and keeps it in the way.
+    fn branch(&mut self, node: usize, value: i64) -> bool {
+        let holds = (self.rules.is_true)(value);
+        let branch = 2 * node as u64 + u64::from(holds) + 1;
+        self.way = self.way.wrapping_mul(WAY_STEP) ^ branch;
+        holds
     }
 
     fn leave(&mut self, old: usize) {

@@ -5,6 +5,7 @@
 pub mod agree;
 pub mod answer;
 pub mod follow;
+pub mod hand_out;
 pub mod levels;
 pub mod marks;
 pub mod names;
@@ -21,6 +22,7 @@ pub mod typed;
 pub mod values;
 
 pub use answer::{number, Answer};
+pub use hand_out::{hand_out, HandOut};
 pub use run::{run, Call, Outcome};
 pub use sheet::Sheet;
 

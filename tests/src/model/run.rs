@@ -29,6 +29,16 @@ pub struct Outcome {
     pub written: Vec<u8>,
 }
 
+impl Outcome {
+    /// A refusal writes nothing.
+    pub fn refused(answer: Answer) -> Outcome {
+        Outcome {
+            answer,
+            written: Vec::new(),
+        }
+    }
+}
+
 /// Mode 0 and mode 1.
 #[derive(Clone, Copy, Debug, PartialEq, Eq)]
 pub enum Mode {
@@ -45,10 +55,7 @@ pub fn run(call: &Call) -> Outcome {
 pub fn run_by(rules: &Rules, call: &Call) -> Outcome {
     match Start::checked(rules, call) {
         Ok(start) => start.run(rules).outcome(),
-        Err(number) => Outcome {
-            answer: Answer::plain(number),
-            written: Vec::new(),
-        },
+        Err(number) => Outcome::refused(Answer::plain(number)),
     }
 }
 
@@ -97,6 +104,7 @@ impl Start {
             stop,
             units: self.fuel - run.fuel_left,
             store: run.store,
+            way: run.way,
         }
     }
 }
@@ -106,21 +114,19 @@ pub struct End {
     pub stop: Option<Stop>,
     pub units: u32,
     pub store: Store,
+    /// Which tests were met, and how each came out, in one number.
+    pub way: u64,
 }
 
 impl End {
-    /// Success is number 0, place 0, and writes exactly the store. A refusal
-    /// writes nothing.
+    /// Success is number 0, place 0, and writes exactly the store.
     pub fn outcome(&self) -> Outcome {
         match self.stop {
             None => Outcome {
                 answer: self.answer(DONE, 0),
                 written: self.store.bytes(),
             },
-            Some(Stop { number, place }) => Outcome {
-                answer: self.answer(number, place),
-                written: Vec::new(),
-            },
+            Some(Stop { number, place }) => Outcome::refused(self.answer(number, place)),
         }
     }
 

@@ -25,7 +25,7 @@ pub fn length(sheet: &Sheet) -> usize {
     COUNT_BYTES + ENTRY_BYTES * sheet.fields.len()
 }
 
-/// The count that a store begins with, if it is long enough.
+/// The count that a store or a request begins with, if it is long enough.
 pub fn count(bytes: &[u8]) -> Option<usize> {
     let count = bytes.first_chunk::<COUNT_BYTES>()?;
     Some(usize::from(u16::from_le_bytes(*count)))

@@ -1,18 +1,17 @@
 //! What the generator of calls promises, and what must hold of the model's run
 //! on any call: fuel beyond the units changes nothing, strict runs are permissive
-//! runs, and stores that agree end in stores that agree.
+//! runs.
 
-use super::damage::{Damage, GROUPS};
-use super::{call_case, runnable, stores, with_damages, CallCase, Expected};
-use crate::generate::{write, Case};
-use crate::model::agree::stores_agree;
-use crate::model::marks::{join, Mark};
+use super::damage::Damage;
+use super::{call_case, runnable, runnable_case, with_damages, CallCase, Expected};
+use crate::compare::calls::Compared;
+use crate::generate::write;
+use crate::model::hand_out::asked;
 use crate::model::number::*;
-use crate::model::rules::{Rules, DOCUMENT, MOST_FUEL};
-use crate::model::run::{run_by, Mode, Start};
-use crate::model::store::{Marked, Store};
+use crate::model::rules::{DOCUMENT, MOST_FUEL};
+use crate::model::run::{Mode, Start};
 use crate::model::tree::depths;
-use crate::model::{load, run, Answer, Call};
+use crate::model::{load, run, Answer, Call, HandOut};
 use crate::random::Random;
 
 #[test]
@@ -26,28 +25,58 @@ fn sheets_made_to_be_run_are_taken() {
 
 #[test]
 fn each_damage_alone_brings_about_its_number() {
-    for damage in GROUPS.iter().copied().flatten() {
-        let done = (0..200).filter(|&index| brings_its_number(damage, index));
+    each_damage_brings_its_number::<Call>();
+    each_damage_brings_its_number::<HandOut>();
+}
+
+fn each_damage_brings_its_number<C: Compared>() {
+    for damage in C::GROUPS.iter().copied().flatten() {
+        let done = (0..200).filter(|&index| brings_its_number::<C>(damage, index));
         assert!(done.count() > 50, "{} seldom fits", damage.name);
     }
 }
 
 /// Whether the damage fits a call; its number is then checked.
-fn brings_its_number(damage: &Damage, index: u64) -> bool {
+fn brings_its_number<C: Compared>(damage: &Damage<C>, index: u64) -> bool {
     let random = &mut Random::of_call(22, index);
-    let sheet = Case {
-        bytes: write::bytes(&runnable::sheet(random)),
-        expected: Some(DONE),
-    };
-    let CallCase { call, expected } = with_damages(sheet, vec![*damage], random);
-    let number = run(&call).answer.number;
+    let sheet = runnable_case(random);
+    let CallCase { call, expected } = with_damages(sheet, vec![damage], random);
+    let number = call.outcome().answer.number;
     assert!(expected.allows(number), "{} at {index}", damage.name);
     expected == Expected::Number(damage.number)
 }
 
+/// Whether some hand-out that is answered, or refused with 18, is so.
+fn hand_out_comes_up(so: impl Fn(&HandOut, Answer) -> bool) -> bool {
+    let calls = (0..20_000).map(|index| call_case::<HandOut>(26, index).call);
+    calls
+        .map(|call| (call.outcome().answer, call))
+        .filter(|(answer, _)| matches!(answer.number, DONE | PARTIAL_ASKED))
+        .any(|(answer, call)| so(&call, answer))
+}
+
+#[test]
+fn requests_of_every_kind_come_up() {
+    let count = |call: &HandOut| asked(&call.request).count();
+    for asked in [0, 1, 63, 64] {
+        assert!(hand_out_comes_up(|call, answer| {
+            count(call) == asked && answer.number == DONE
+        }));
+    }
+    for places in [0..1, 1..2, 32..63, 63..64] {
+        assert!(hand_out_comes_up(|_, answer| {
+            answer.number == PARTIAL_ASKED && places.contains(&answer.place)
+        }));
+    }
+    assert!(hand_out_comes_up(|call, _| {
+        asked(&call.request).any(|field| field > 32)
+    }));
+    assert!(hand_out_comes_up(|call, _| call.reader == 15));
+}
+
 /// The calls that pass all checks, with what they start from.
 fn starts(count: u64) -> impl Iterator<Item = (Call, Start)> {
-    let calls = (0..count).map(|index| call_case(23, index).call);
+    let calls = (0..count).map(|index| call_case::<Call>(23, index).call);
     calls.filter_map(|call| {
         let start = Start::checked(&DOCUMENT, &call).ok()?;
         Some((call, start))
@@ -145,76 +174,5 @@ fn strict_runs_are_permissive_runs_without_partial_marks() {
         assert_ne!(strict.answer.number, PARTIAL_TEST);
         let end = start.run(&DOCUMENT);
         assert!(end.store.fields.iter().all(|field| !field.mark.partial));
-    }
-}
-
-/// A store that agrees with another for the reader, made field by field.
-fn agreeing(start: &Start, reader: usize, random: &mut Random) -> Store {
-    let levels = &start.sheet.levels;
-    let one = |field: Marked| Store {
-        fields: vec![field],
-    };
-    let permissive = start.mode == Mode::Permissive;
-    let others = stores::store(&start.sheet, permissive, random).fields;
-    let fields = start.store.fields.iter().zip(others);
-    let agreeing = fields.map(|(&field, other)| {
-        match stores_agree(levels, reader, &one(field), &one(other)) {
-            true => other,
-            false => field,
-        }
-    });
-    Store {
-        fields: agreeing.collect(),
-    }
-}
-
-/// A call that, run from two stores that agree for a reader, ends in stores that
-/// don't. A reader at TOP is left out, since seals show partial fields to it.
-fn leak(rules: &Rules, index: u64) -> Option<Call> {
-    let call = call_case(24, index).call;
-    let start = Start::checked(rules, &call).ok()?;
-    let random = &mut Random::of_call(25, index);
-    let levels = &start.sheet.levels;
-    let reader = random.below(levels.count());
-    let other = Call {
-        store: agreeing(&start, reader, random).bytes(),
-        ..call.clone()
-    };
-    let ends = [&call, &other].map(|call| run_by(rules, call));
-    let done = ends.iter().all(|end| end.answer.number == DONE);
-    let [end, other_end] = ends.map(|end| Store::read(&start.sheet, &end.written));
-    let leaks = done && !stores_agree(levels, reader, &end, &other_end);
-    (leaks && reader != levels.top()).then_some(call)
-}
-
-#[test]
-fn stores_that_agree_end_in_stores_that_agree() {
-    for index in 0..60_000 {
-        assert_eq!(leak(&DOCUMENT, index), None, "index {index}");
-    }
-}
-
-#[test]
-fn wrong_marks_leak() {
-    let partial_test_let_through = Rules {
-        context_of_body: |levels, context, test| Ok(join(levels, context, test.level)),
-        ..DOCUMENT
-    };
-    let not_drops_the_mark = Rules {
-        mark_of_not: |levels, _| Mark::whole(levels.bottom()),
-        ..DOCUMENT
-    };
-    let every_context_lies_below = Rules {
-        mark_of_assigned: |levels, _, assigned| {
-            Ok(assigned.mark.join(Mark::whole(assigned.context), levels))
-        },
-        ..DOCUMENT
-    };
-    for rules in [
-        partial_test_let_through,
-        not_drops_the_mark,
-        every_context_lies_below,
-    ] {
-        assert!((0..60_000).any(|index| leak(&rules, index).is_some()));
     }
 }

@@ -4,6 +4,7 @@
 use super::trees::*;
 use super::*;
 use crate::model::agree::stores_agree;
+use crate::model::hand_out::request;
 use crate::model::marks::Mark;
 use crate::model::rules::{Rules, DOCUMENT};
 use crate::model::run::run_by;
@@ -69,6 +70,25 @@ fn the_flag_sheet_with_a_seal() {
     let at_600 = at_cost(&sheet, 600, PERMISSIVE, 9);
     done(&at_600, 6, &[whole(0, 0), partial(0, 1), whole(1, 600)]);
     refused(&at_cost(&sheet, 600, STRICT, 9), CONTEXT, 16, 6);
+}
+
+/// A request for q by level 0, after the flag sheet with a seal at this cost.
+fn asked_for_q(cost: i32) -> Outcome {
+    let sheet = sealed_flag_sheet();
+    hand_out(&HandOut {
+        sheet: sheet.bytes(),
+        store: run(&at_cost(&sheet, cost, PERMISSIVE, 9)).written,
+        reader: 0,
+        request: request(&[Q.into()]),
+        output: vec![0; 7],
+    })
+}
+
+#[test]
+fn a_request_for_q_after_the_flag_sheet_with_a_seal() {
+    assert_eq!(asked_for_q(400).answer, Answer::plain(DONE));
+    assert_eq!(asked_for_q(400).written, [1, 0, 1, 0, 0, 0, 0]);
+    assert_eq!(asked_for_q(600).answer, Answer::plain(PARTIAL_ASKED));
 }
 
 #[test]

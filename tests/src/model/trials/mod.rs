@@ -3,6 +3,7 @@
 
 mod calls;
 mod flow;
+mod hand_out;
 mod load;
 mod trees;
 mod values;

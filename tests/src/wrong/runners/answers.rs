@@ -1,28 +1,18 @@
 //! Runners wrong about the answer: units, places, or everything.
 
-use super::{Faults, Making, Named, WrongRunner};
+use super::{Faults, Named, WrongRunner};
 use crate::model::number::{DONE, FUEL_USED_UP, NODE};
 use crate::model::rules::MOST_FUEL;
 use crate::model::sheet::{Node, Sheet};
 use crate::model::{run, Answer, Call, Outcome};
+use crate::wrong::calls::{Answering, Making};
 
 pub fn runners() -> Vec<WrongRunner> {
-    let mut runners: Vec<WrongRunner> = UNITS.iter().copied().map(answering).collect();
+    let mut runners: Vec<WrongRunner> = UNITS.iter().copied().map(WrongRunner::answering).collect();
     runners.extend(PLACES.iter().copied().map(placing));
     runners.extend(RUN_AGAIN.iter().copied().map(WrongRunner::making));
     runners.extend(FIXED.iter().copied().map(WrongRunner::making));
     runners
-}
-
-/// Gives this answer for the right one.
-fn answering((name, wrong): Named<fn(&Call, Answer) -> Answer>) -> WrongRunner {
-    WrongRunner::new(name, move |call| {
-        let right = run(call);
-        Outcome {
-            answer: wrong(call, right.answer),
-            ..right
-        }
-    })
 }
 
 /// Whether the call has passed all checks.
@@ -30,11 +20,7 @@ fn has_run(answer: Answer) -> bool {
     answer.number == DONE || answer.number >= FUEL_USED_UP
 }
 
-const UNITS: Faults<fn(&Call, Answer) -> Answer> = &[
-    ("a unit more on success", |_, answer| Answer {
-        units: answer.units + u32::from(answer.number == DONE),
-        ..answer
-    }),
+const UNITS: Faults<Answering<Call>> = &[
     ("no units on success", |_, answer| match answer.number {
         DONE => Answer::plain(DONE),
         _ => answer,
@@ -67,10 +53,6 @@ const UNITS: Faults<fn(&Call, Answer) -> Answer> = &[
     }),
     ("fewer than 1,000,000 units told", |_, answer| Answer {
         units: answer.units.min(MOST_FUEL - 1),
-        ..answer
-    }),
-    ("a place on success", |_, answer| Answer {
-        place: answer.place + u16::from(answer.number == DONE),
         ..answer
     }),
 ];
@@ -108,7 +90,7 @@ fn with_fuel(call: &Call, fuel: u32) -> Outcome {
     run(&call)
 }
 
-const RUN_AGAIN: Faults<Making> = &[
+const RUN_AGAIN: Faults<Making<Call>> = &[
     ("the last unit can't be spent", |call, right| {
         match has_run(right.answer) && call.fuel > 0 {
             true => with_fuel(call, call.fuel - 1),
@@ -124,14 +106,12 @@ const RUN_AGAIN: Faults<Making> = &[
     ),
 ];
 
-const FIXED: Faults<Making> = &[
-    ("every sheet refused", |_, _| Outcome {
-        answer: Answer::plain(NODE),
-        written: Vec::new(),
+const FIXED: Faults<Making<Call>> = &[
+    ("every sheet refused", |_, _| {
+        Outcome::refused(Answer::plain(NODE))
     }),
-    ("every call done", |_, _| Outcome {
-        answer: Answer::plain(DONE),
-        written: Vec::new(),
+    ("every call done", |_, _| {
+        Outcome::refused(Answer::plain(DONE))
     }),
     ("every run done", |call, right| {
         match has_run(right.answer) {

@@ -9,7 +9,7 @@ use crate::model::run::Mode;
 
 pub fn runners() -> Vec<WrongRunner> {
     let faults = [LYING_BELOW, BELOW, NOT_BELOW, STOPS].concat();
-    in_rules! { mark_of_assigned: &faults }
+    in_rules! { crate::model::rules; mark_of_assigned: &faults }
 }
 
 type Assign = fn(&Levels, Mode, Assigned) -> Result<Mark, u8>;
@@ -69,6 +69,9 @@ const LYING_BELOW: Faults<Assign> = &[
             said(below, levels, mode, assigned)
         },
     ),
+    ("every context lies below", |levels, mode, assigned| {
+        said(true, levels, mode, assigned)
+    }),
     (
         "no context lies below a partial field",
         |levels, mode, assigned| {

@@ -1,7 +1,7 @@
 //! Runners wrong about rows 8 to 11, each row by itself.
 
 use super::{in_rules, Faults, Named, WrongRunner};
-use crate::compare::run::GUARD;
+use crate::compare::effect::GUARD;
 use crate::model::marks::Mark;
 use crate::model::number::STORE;
 use crate::model::rules::{DOCUMENT, MOST_FUEL};
@@ -9,9 +9,11 @@ use crate::model::run::Mode;
 use crate::model::sheet::Sheet;
 use crate::model::store::{count, length, ENTRY_BYTES};
 use crate::model::{run, Call};
+use crate::wrong::calls::Making;
 
 pub fn runners() -> Vec<WrongRunner> {
     let mut runners = in_rules! {
+        crate::model::rules;
         mode_and_fuel_are_right: MODES_AND_FUELS,
         store_fits: STORES,
         mark_is_right: MARKS,
@@ -70,7 +72,7 @@ const STORES: Faults<fn(&Sheet, &[u8]) -> bool> = &[
     }),
 ];
 
-const SHORT_STORE: Named<super::Making> = ("a store a byte short taken", |call, right| {
+const SHORT_STORE: Named<Making<Call>> = ("a store a byte short taken", |call, right| {
     let mut longer = call.clone();
     longer.store.push(0);
     match right.answer.number {

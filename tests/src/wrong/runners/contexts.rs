@@ -9,6 +9,7 @@ use crate::model::typed::Command;
 
 pub fn runners() -> Vec<WrongRunner> {
     in_rules! {
+        crate::model::rules;
         first_context: FIRST,
         context_of_body: BODIES,
         context_of_next_round: NEXT_ROUNDS,

@@ -6,6 +6,7 @@ use crate::model::marks::{join, meet, Mark};
 
 pub fn runners() -> Vec<WrongRunner> {
     in_rules! {
+        crate::model::rules;
         operator_is_partial: PARTIAL_OPERATORS,
         level_of_operator: LEVELS_OF_OPERATORS,
         mark_of_constant: CONSTANTS,

@@ -1,6 +1,5 @@
 //! Runners of calls that are wrong on purpose: about one rule, about the sheet,
-//! about a check, or about what they answer and write in the end. Faults stand
-//! in tables under their names.
+//! about a check, or about what they answer and write in the end.
 
 mod answers;
 mod assignments;
@@ -12,53 +11,15 @@ mod sheets;
 mod values;
 mod writes;
 
-use crate::compare::run::{compare, Effect};
+use super::calls::{about_success, about_writes, in_rules, Faults, Named, Rulebook, Wrong};
 use crate::model::rules::{Rules, DOCUMENT};
 use crate::model::run::{run_by, Start};
 use crate::model::{run, Call, Outcome, Sheet};
 
 /// A runner with a fault.
-pub struct WrongRunner {
-    pub name: String,
-    outcome: Box<dyn Fn(&Call) -> Outcome>,
-}
-
-/// A fault under its name.
-type Named<Fault> = (&'static str, Fault);
-
-/// A table of faults.
-type Faults<Fault> = &'static [Named<Fault>];
-
-/// What is made of a right outcome.
-type Making = fn(&Call, Outcome) -> Outcome;
+pub type WrongRunner = Wrong<Call>;
 
 impl WrongRunner {
-    fn new(name: impl Into<String>, outcome: impl Fn(&Call) -> Outcome + 'static) -> WrongRunner {
-        WrongRunner {
-            name: name.into(),
-            outcome: Box::new(outcome),
-        }
-    }
-
-    /// Goes by these rules.
-    fn by((name, rules): Named<Rules>) -> WrongRunner {
-        WrongRunner::new(name, move |call| run_by(&rules, call))
-    }
-
-    /// Makes something else of the right outcome.
-    fn making((name, wrong): Named<Making>) -> WrongRunner {
-        WrongRunner::new(name, move |call| wrong(call, run(call)))
-    }
-
-    /// Takes another call for the one it got.
-    fn mistaking((name, change): Named<fn(&mut Call)>) -> WrongRunner {
-        WrongRunner::new(name, move |call| {
-            let mut mistaken = call.clone();
-            change(&mut mistaken);
-            run(&mistaken)
-        })
-    }
-
     /// Runs another sheet than the one that passed the checks.
     fn misreading((name, change): Named<fn(&mut Sheet)>) -> WrongRunner {
         WrongRunner::new(name, move |call| {
@@ -69,31 +30,13 @@ impl WrongRunner {
             start.run(&DOCUMENT).outcome()
         })
     }
+}
 
-    pub fn effect(&self, call: &Call) -> Effect {
-        Effect::of(call, &(self.outcome)(call))
+impl Rulebook<Call> for Rules {
+    fn outcome(&self, call: &Call) -> Outcome {
+        run_by(self, call)
     }
 }
-
-/// A runner for each fault of a table, in the document's rules.
-fn in_rule<Fault: Copy>(
-    faults: &[Named<Fault>],
-    rules: impl Fn(Fault) -> Rules,
-) -> Vec<WrongRunner> {
-    let runner = |&(name, fault): &Named<Fault>| WrongRunner::by((name, rules(fault)));
-    faults.iter().map(runner).collect()
-}
-
-/// Runners wrong about one rule each: rules by name, each with its table of faults.
-macro_rules! in_rules {
-    ($($rule:ident: $faults:expr),+ $(,)?) => {{
-        use $crate::model::rules::{Rules, DOCUMENT};
-        let mut runners = Vec::new();
-        $(runners.extend(super::in_rule($faults, |$rule| Rules { $rule, ..DOCUMENT }));)+
-        runners
-    }};
-}
-use in_rules;
 
 /// All wrong runners.
 pub fn all() -> Vec<WrongRunner> {
@@ -106,25 +49,15 @@ pub fn all() -> Vec<WrongRunner> {
     runners.extend(sheets::runners());
     runners.extend(answers::runners());
     runners.extend(writes::runners());
+    runners.extend(about_success());
+    runners.extend(about_writes());
     runners
-}
-
-/// The names of those that the comparison takes for right on so many calls.
-pub fn not_found_out(runners: &[WrongRunner], seed: u64, calls: u64) -> Vec<&str> {
-    let passes = |runner: &&WrongRunner| {
-        let effect = |call: &Call| runner.effect(call);
-        compare(seed, 0..calls, &effect).is_ok()
-    };
-    runners
-        .iter()
-        .filter(passes)
-        .map(|runner| runner.name.as_str())
-        .collect()
 }
 
 #[cfg(test)]
 mod tests {
     use super::*;
+    use crate::wrong::calls::not_found_out;
 
     #[test]
     fn every_wrong_runner_is_found_out() {

@@ -1,46 +1,43 @@
 //! Runners that ask the right questions in the wrong order.
 
-use super::{Faults, Making, WrongRunner};
+use super::WrongRunner;
 use crate::model::number::*;
 use crate::model::rules::{Rules, DOCUMENT};
 use crate::model::run::{run_by, Mode};
 use crate::model::sheet::Sheet;
 use crate::model::store::entries;
-use crate::model::{load, run, Answer, Call, Outcome};
+use crate::model::{run, Answer, Call, Outcome};
+use crate::wrong::calls::{rows_exchanged, rows_of_load, Faults, Making, Row};
 
 pub fn runners() -> Vec<WrongRunner> {
-    let mut runners = rows_exchanged();
+    let mut runners = rows_exchanged(&rows());
     runners.extend(LATE.iter().copied().map(WrongRunner::making));
     runners
 }
 
-/// A row, and whether a call fails it, other rows aside.
-type Row = (u8, fn(&Call) -> bool);
-
 /// The rows in the order of checks. What a store and an output must be is known
 /// only if the sheet can be read.
-const ROWS: [Row; 11] = [
-    (MODE_OR_FUEL, |call| {
+fn rows() -> Vec<Row<Call>> {
+    let mode_or_fuel: Row<Call> = (MODE_OR_FUEL, |call| {
         !(DOCUMENT.mode_and_fuel_are_right)(call.mode, call.fuel)
-    }),
-    (LENGTH, |call| load(&call.sheet).number == LENGTH),
-    (COUNT, |call| load(&call.sheet).number == COUNT),
-    (LEVELS, |call| load(&call.sheet).number == LEVELS),
-    (NAME, |call| load(&call.sheet).number == NAME),
-    (NODE, |call| load(&call.sheet).number == NODE),
-    (USE, |call| load(&call.sheet).number == USE),
-    (DEPTH, |call| load(&call.sheet).number == DEPTH),
-    (STORE, |call| {
-        sheet_of(call).is_some_and(|sheet| !(DOCUMENT.store_fits)(&sheet, &call.store))
-    }),
-    (MARK, |call| {
-        sheet_of(call).is_some_and(|sheet| marks_fail(&sheet, call))
-    }),
-    (OUTPUT, |call| {
-        let length = call.output.len();
-        sheet_of(call).is_some_and(|sheet| !(DOCUMENT.output_is_long_enough)(&sheet, length))
-    }),
-];
+    });
+    let later: [Row<Call>; 3] = [
+        (STORE, |call| {
+            sheet_of(call).is_some_and(|sheet| !(DOCUMENT.store_fits)(&sheet, &call.store))
+        }),
+        (MARK, |call| {
+            sheet_of(call).is_some_and(|sheet| marks_fail(&sheet, call))
+        }),
+        (OUTPUT, |call| {
+            let length = call.output.len();
+            sheet_of(call).is_some_and(|sheet| !(DOCUMENT.output_is_long_enough)(&sheet, length))
+        }),
+    ];
+    let mut rows = vec![mode_or_fuel];
+    rows.extend(rows_of_load());
+    rows.extend(later);
+    rows
+}
 
 fn sheet_of(call: &Call) -> Option<Sheet> {
     Sheet::read(&call.sheet).ok()
@@ -54,51 +51,18 @@ fn marks_fail(sheet: &Sheet, call: &Call) -> bool {
     entries(&call.store).any(|(mark, _)| !(DOCUMENT.mark_is_right)(sheet, mode, mark))
 }
 
-/// Of two rows that both fail, the later one is told. Load's rows among each
-/// other are left to the wrong judges.
-fn rows_exchanged() -> Vec<WrongRunner> {
-    let mut runners = Vec::new();
-    for (at, &(late, fails)) in ROWS.iter().enumerate() {
-        for &(early, _) in &ROWS[..at] {
-            let of_load = early <= DEPTH && late <= DEPTH;
-            let unread = early == LENGTH || early == COUNT;
-            if !of_load && !unread {
-                runners.push(told(late, early, fails));
-            }
-        }
-    }
-    runners
-}
-
-fn told(late: u8, early: u8, fails: fn(&Call) -> bool) -> WrongRunner {
-    WrongRunner::new(format!("{late} before {early}"), move |call| {
-        let right = run(call);
-        match right.answer.number == early && fails(call) {
-            true => refused(Answer::plain(late)),
-            false => right,
-        }
-    })
-}
-
-fn refused(answer: Answer) -> Outcome {
-    Outcome {
-        answer,
-        written: Vec::new(),
-    }
-}
-
-const LATE: Faults<Making> = &[
+const LATE: Faults<Making<Call>> = &[
     ("11 only if there is something to write", |call, right| {
         let late = whatever_the_output(call);
         match right.answer.number == OUTPUT && late.number != DONE {
-            true => refused(late),
+            true => Outcome::refused(late),
             false => right,
         }
     }),
     ("11 with the units of the run", |call, right| {
         let units = whatever_the_output(call).units;
         match right.answer.number {
-            OUTPUT => refused(Answer {
+            OUTPUT => Outcome::refused(Answer {
                 units,
                 ..right.answer
             }),
@@ -110,7 +74,7 @@ const LATE: Faults<Making> = &[
         let unstopped = never_stopped_by_an_operator(call);
         let in_an_expression = number == OUT_OF_RANGE || number == DIVISOR;
         match in_an_expression && unstopped.number == CONTEXT && unstopped.units == units {
-            true => refused(unstopped),
+            true => Outcome::refused(unstopped),
             false => right,
         }
     }),
@@ -120,7 +84,7 @@ const LATE: Faults<Making> = &[
             _ => right.answer,
         };
         match stop.number > FUEL_USED_UP && stop.units > call.fuel {
-            true => refused(Answer {
+            true => Outcome::refused(Answer {
                 units: call.fuel,
                 ..stop
             }),

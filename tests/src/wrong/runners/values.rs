@@ -11,6 +11,7 @@ use Operator::*;
 pub fn runners() -> Vec<WrongRunner> {
     let operators = [RANGES, DIVISIONS, COMPARISONS, AND_OR].concat();
     in_rules! {
+        crate::model::rules;
         operate: &operators,
         not: NOTS,
         is_true: TRUTHS,

@@ -5,8 +5,8 @@ use mathlib.Core.Path.{ap, _∙_}
 use denote.Ref.{now}
 use Rattle.levels.specs.Lattice.{lattice}
 use Rattle.levels.proofs.Facts.{facts}
-use Rattle.flow.specs.Marks.{joined}
-use Rattle.flow.specs.Stores.{markOf}
+use Rattle.rules.specs.Marks.{joined}
+use Rattle.rules.specs.Stores.{markOf}
 use Rattle.flow.proofs.Marking.{known-is, known-of, joined-same, joined-whole, joined-partial}
 use Rattle.flow.proofs.cells.join_marks.Statement.{statement}
 use Rattle.flow.proofs.cells.join_marks.Tie as tie

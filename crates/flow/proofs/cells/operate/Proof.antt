@@ -7,8 +7,8 @@ use denote.Ref.{now}
 use Rattle.value.specs.Values.{operatorOf}
 use Rattle.levels.specs.Lattice.{lattice}
 use Rattle.sheet.specs.Nodes.{opAt}
-use Rattle.flow.specs.Rules.{gives, cell}
-use Rattle.flow.specs.Marks.{Mark}
+use Rattle.rules.specs.Rules.{gives, cell}
+use Rattle.rules.specs.Marks.{Mark}
 use Rattle.flow.specs.Words.{rowsIn, nodesIn, valueIn, whyOf}
 use Rattle.flow.proofs.Words.{word-value, stop-is, known-seen, known-stop, number-seen, number-stop}
 use Rattle.flow.proofs.Expressions.{operated-is, operated-range, operated-zero}

@@ -10,9 +10,9 @@ use lib.ListN.{getD}
 use Rattle.levels.specs.Levels.{count}
 use Rattle.levels.specs.Lattice.{lattice}
 use Rattle.sheet.specs.Nodes.{placeAt}
-use Rattle.flow.specs.Rules.{fine}
-use Rattle.flow.specs.Marks.{levelOf}
-use Rattle.flow.specs.Stores.{markOf, markKnown}
+use Rattle.rules.specs.Rules.{fine}
+use Rattle.rules.specs.Marks.{levelOf}
+use Rattle.rules.specs.Stores.{markOf, markKnown}
 use Rattle.flow.specs.Words.{rowsIn, nodesIn, markIn, Evaluated}
 use Rattle.flow.specs.Tasks.{contextIn, InContext}
 use Rattle.flow.proofs.Marking.{stored-below, stored-strict, stored-permissive}

@@ -9,8 +9,8 @@ use Rattle.levels.specs.Lattice.{lattice}
 use Rattle.levels.proofs.Facts.{facts}
 use Rattle.sheet.specs.Nodes.{placeAt}
 use Rattle.sheet.specs.Trees.{expAt}
-use Rattle.flow.specs.Rules.{eval}
-use Rattle.flow.specs.Marks.{marking}
+use Rattle.rules.specs.Rules.{eval}
+use Rattle.rules.specs.Marks.{marking}
 use Rattle.flow.specs.Words.{rowsIn, constantsIn, nodesIn, workOf, resultOf}
 use Rattle.flow.specs.Tasks.{modeIn, contextIn}
 use Rattle.flow.proofs.Marking.{known-of}

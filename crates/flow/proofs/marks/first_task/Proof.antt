@@ -7,7 +7,7 @@ use mathlib.Core.List.{List}
 use denote.Ref.{now}
 use Rattle.levels.specs.Levels.{lowestOf, highestOf}
 use Rattle.levels.proofs.Facts.{facts}
-use Rattle.flow.specs.Marks.{modeOf}
+use Rattle.rules.specs.Marks.{modeOf}
 use Rattle.flow.specs.Tasks.{First}
 use Rattle.flow.proofs.marks.first_task.Statement.{statement}
 use Rattle.flow.proofs.marks.first_task.Tie as tie

@@ -2,27 +2,26 @@
 use borrow.Author.Needs.{needs}
 use native.Mathlib.Omega.{arith}
 use native.Mathlib.Nat.{le-antisymm}
-use Prim.Native.Nat.{ℕ, _-_, _%_, _≤_}
-use mathlib.Core.Path.{_≡_, refl, ap, ap₂, _∙_}
-use mathlib.Core.List.{List}
-use lib.ListN.{length, getD, set, length-set}
+use Prim.Native.Nat.{ℕ, _+_, _-_, _%_, _≤_}
+use mathlib.Core.Path.{_≡_, refl, sym, ap, ap₂, _∙_}
+use mathlib.Core.List.{List, _∷_}
+use lib.ListN.{length, getD, length-set}
 use lib.Seq.{sets}
 use denote.Ref.{now}
-use Rattle.flow.specs.Stores.{entryAt}
-use Rattle.flow.specs.Words.{workAt, workOf}
-use Rattle.flow.proofs.Entries.{headed, filled, fill-first, fill-next, fill-last, word-entry}
+use Rattle.value.specs.Bytes.{bytesOf}
+use Rattle.value.specs.declared.Value.{Value}
+use Rattle.rules.specs.Stores.{entryAt, entryOf, entriesOf, storeBytes}
+use Rattle.flow.specs.Words.{cellIn, workAt, workOf}
+use Rattle.flow.proofs.Entries.{word-entry, entry-length, no-entries, one-entry-more, entries-length}
+use Rattle.flow.proofs.Filling.{headed, headed-length, filled, fill-first, fill-next, fill-last}
 use Rattle.flow.proofs.stores.deliver.Statement.{statement}
 use Rattle.flow.proofs.stores.deliver.Tie as tie
 
 abbrev Inv-loop : tie.InvT-loop
-Inv-loop work out₀ fields i₀ out i = (i ≤ fields) × (out ≡ filled (fields % 256) (workOf work) i out₀) × (length out ≡ length out₀)
+Inv-loop work out₀ fields i₀ out i = (i ≤ fields) × (out ≡ filled (fields % 256) (entriesOf (workOf work) i) i out₀) × (length out ≡ length out₀)
 
 abbrev μ-loop : tie.MeasureT-loop
 μ-loop work out₀ fields i₀ out i = fields - i
-
--- the count's bytes keep the length
-long : (count : ℕ) (z : List ℕ) → length (headed count z) ≡ length z
-long count z = length-set (set z 0 count) 1 0 ∙ length-set z 0 count
 
 slice-write-out-2 : tie.Need-slice-write-out-2 Inv-loop μ-loop
 slice-write-out-2 c = simp length-set (omega arith)
@@ -30,53 +29,67 @@ slice-write-out-2 c = simp length-set (omega arith)
 loop-holds : tie.Need-loop-holds Inv-loop μ-loop
 loop-holds c =
     let start = c .before in
-    (omega arith, fill-first _ (workOf (now (start .args .work))) (now (start .args .out)) (omega (arith, start .pre .1)), refl)
+    let count = start .args .fields % 256 in
+    let z = now (start .args .out) in (
+      omega arith,
+      fill-first count z (omega (arith, start .pre .1)) ∙ ap (λ (l : List ℕ). filled count l 0 (headed count z)) (sym (no-entries (workOf (now (start .args .work))))),
+      refl,
+    )
 
-element-copy-out-put-entry : tie.Need-element-copy-out-put-entry Inv-loop μ-loop
-element-copy-out-put-entry c =
-    let in-loop = c .before in
-    let start = in-loop .before .before .before in
-    omega (arith, in-loop .loop-test .taken, start .pre .0)
+element-copy-out-word : tie.Need-element-copy-out-word Inv-loop μ-loop
+element-copy-out-word c = omega (arith, c .loop-test .taken, c .before .before .before .pre .0)
 
 put-entry-requires : tie.Need-put-entry-requires Inv-loop μ-loop
 put-entry-requires c κs =
-    let in-loop = c .before .before in
+    let in-loop = c .before .before .before .before in
     let at-loop = in-loop .before in
     let start = at-loop .before .before in
-    omega (arith, in-loop .loop-test .taken, start .pre .1, at-loop .loop .inv .2, long (start .args .fields % 256) (now (start .args .out)))
+    omega (arith, in-loop .loop-test .taken, start .pre .1, at-loop .loop .inv .2, headed-length (start .args .fields % 256) (now (start .args .out)))
+
+-- the byte and the value of a word make its entry
+abbrev word-of : tie.After-word Inv-loop μ-loop → ℕ
+word-of c = let at-loop = c .before .before in getD (now (at-loop .before .before .args .work)) (at-loop .loop .i) 0
+
+entry-is : (c : tie.After-put-entry Inv-loop μ-loop)
+    → (c .before .before .mark-in .result ∷ bytesOf (c .before .value-in .result .n)) ≡ entryOf (cellIn (word-of (c .before .before .before .before)))
+entry-is c =
+    ap₂ (λ (b : ℕ) (v : Value). b ∷ bytesOf (v .n)) (c .before .before .mark-in .ensures) (c .before .value-in .ensures) ∙ word-entry _
 
 loop-again : tie.Need-loop-again Inv-loop μ-loop
 unfolding workAt
 loop-again c =
     let call = c .before .before in
-    let in-loop = call .before .before .before in
+    let in-loop = call .before .before .before .before .before in
     let at-loop = in-loop .before in
     let start = at-loop .before .before in
     let z = now (start .args .out) in
-    let work = now (start .args .work) in
+    let σ = workOf (now (start .args .work)) in
     let i = at-loop .loop .i in
     let inv = at-loop .loop .inv in
     let inside = in-loop .loop-test .taken in
     let count = start .args .fields % 256 in (
       omega arith,
       call .put-entry .ensures
-          ∙ ap₂ (λ (l e : List ℕ). sets l (entryAt i) e) (inv .1) (word-entry (getD work i 0))
-          ∙ fill-next count (workOf work) i (headed count z) (omega (arith, start .pre .1, long count z)),
+          ∙ ap₂ (λ (l e : List ℕ). sets l (entryAt i) e) (inv .1) (entry-is call)
+          ∙ fill-next count (entriesOf σ i) (entryOf (σ i)) i (headed count z) (entries-length σ i) (entry-length (σ i)) (omega (arith, start .pre .1, headed-length count z))
+          ∙ ap (λ (l : List ℕ). filled count l (i + 1) (headed count z)) (one-entry-more σ i),
       call .put-entry .kept .0 ∙ inv .2,
     )
 
 same-length : tie.Need-same-length Inv-loop μ-loop
-same-length c = let start = c .before .before .before in c .before .loop .inv .2 ∙ long (start .args .fields % 256) (now (start .args .out))
+same-length c = let start = c .before .before .before in c .before .loop .inv .2 ∙ headed-length (start .args .fields % 256) (now (start .args .out))
 
 returns : tie.Need-returns Inv-loop μ-loop
+unfolding storeBytes
 returns c =
     let at-loop = c .before in
     let start = at-loop .before .before in
     let fields = start .args .fields in
+    let count = fields % 256 in
     let z = now (start .args .out) in
     let σ = workOf (now (start .args .work)) in
     let inv = at-loop .loop .inv in
-    inv .1 ∙ ap (λ (k : ℕ). filled (fields % 256) σ k (headed (fields % 256) z)) (le-antisymm (inv .0) (c .loop-test .left)) ∙ fill-last (fields % 256) σ fields z
+    inv .1 ∙ ap (λ (k : ℕ). filled count (entriesOf σ k) k (headed count z)) (le-antisymm (inv .0) (c .loop-test .left)) ∙ fill-last count (entriesOf σ fields) fields z
 
 pub deliver-spec : {M : Type 1} → statement M
 deliver-spec =
@@ -89,9 +102,11 @@ deliver-spec =
     slice-write-out-2
     loop-holds
     (λ c. search needs)
+    element-copy-out-word
     (λ c. search needs)
     (λ c. search needs)
-    element-copy-out-put-entry
+    (λ c κs. search needs)
+    (λ c κs. search needs)
     put-entry-requires
     (λ c. search needs)
     (λ c. search needs)

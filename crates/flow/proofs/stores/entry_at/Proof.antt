@@ -3,8 +3,8 @@ use borrow.Author.Needs.{needs}
 use mathlib.Core.Path.{ap, _∙_}
 use lib.IntN.{ℤ}
 use denote.Ref.{now}
-use Rattle.flow.specs.Rules.{cell}
-use Rattle.flow.specs.Stores.{markOf, markAt, cellAt}
+use Rattle.rules.specs.Rules.{cell}
+use Rattle.rules.specs.Stores.{markOf, markAt, cellAt}
 use Rattle.flow.proofs.stores.entry_at.Statement.{statement}
 use Rattle.flow.proofs.stores.entry_at.Tie as tie
 

@@ -1,7 +1,7 @@
 -- The length, then the count.
 use borrow.Author.Needs.{needs}
 use borrow.Author.Tests.{eq-eqb, ne-eqb}
-use Rattle.flow.specs.Stores.{storeFits}
+use Rattle.rules.specs.Stores.{storeFits}
 use Rattle.flow.proofs.stores.fits.Statement.{statement}
 use Rattle.flow.proofs.stores.fits.Tie as tie
 

@@ -1,7 +1,7 @@
 -- The tests of the definition, in its order.
 use borrow.Author.Tests.{ne-eqb}
-use Rattle.flow.specs.Marks.{modeOf}
-use Rattle.flow.specs.Stores.{markKnown}
+use Rattle.rules.specs.Marks.{modeOf}
+use Rattle.rules.specs.Stores.{markKnown}
 use Rattle.flow.proofs.stores.mark_taken.Statement.{statement}
 use Rattle.flow.proofs.stores.mark_taken.Tie as tie
 

@@ -6,8 +6,8 @@ use mathlib.Core.Bool.{true}
 use borrow.Author.Tests.{not-true, not-false}
 use Rattle.basis.specs.Tests.{all}
 use Rattle.basis.proofs.Tests.{all-none, all-more, all-done, all-fails}
-use Rattle.flow.specs.Stores.{markAt, markTaken, marksRight}
-use Rattle.flow.specs.Marks.{modeOf}
+use Rattle.rules.specs.Stores.{markAt, markTaken, marksRight}
+use Rattle.rules.specs.Marks.{modeOf}
 use Rattle.flow.proofs.stores.marks_right.Statement.{statement}
 use Rattle.flow.proofs.stores.marks_right.Tie as tie
 

@@ -1,4 +1,4 @@
--- The mark's byte, then the value's four.
+-- The byte, then the value's four.
 use borrow.Author.Needs.{needs}
 use native.Mathlib.Omega.{arith}
 use native.Mathlib.Numerals.{add-one, add-two, add-three, add-four}
@@ -21,14 +21,12 @@ slice-write-out-5 c = simp length-set (omega arith)
 
 returns : tie.Need-returns
 unfolding bytesOf
-returns c = simp (add-one, add-two, add-three, add-four, c .mark-in .ensures, c .before .to-bytes .ensures, c .before .before .value-in .ensures)
+returns c = simp (add-one, add-two, add-three, add-four, c .to-bytes .ensures)
 
 pub put-entry-spec : {M : Type 1} → statement M
 put-entry-spec =
     tie.close
     (tie.spec
-    (λ c κs. search needs)
-    (λ c κs. search needs)
     (λ c κs. search needs)
     (λ c. search needs)
     (λ c. search needs)

@@ -7,7 +7,7 @@ mod expressions;
 mod sizes;
 
 use super::draft::numbered;
-use crate::generate::levels::{lattice, rows, small_lattice};
+use crate::generate::levels::{lattice, rows, small_lattice, Order};
 use crate::generate::names::names;
 use crate::generate::valid::MOST_FIELDS;
 use crate::model::sheet::Sheet;
@@ -19,6 +19,11 @@ pub fn sheet(random: &mut Random) -> Sheet {
         true => lattice(random),
         false => small_lattice(random),
     };
+    sheet_of(&levels, random)
+}
+
+/// A sheet of these levels that is made to be run.
+pub fn sheet_of(levels: &Order, random: &mut Random) -> Sheet {
     let fields = match random.once_in(16) {
         true => random.between(7, MOST_FIELDS),
         false => random.between(1, 6),
@@ -31,7 +36,7 @@ pub fn sheet(random: &mut Random) -> Sheet {
     let top = maker.whole();
     let constants = maker.constants;
     Sheet {
-        levels: rows(&levels),
+        levels: rows(levels),
         fields: names(fields, random),
         constants,
         nodes: numbered(&top, random),

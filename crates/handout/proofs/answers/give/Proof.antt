@@ -1,0 +1,184 @@
+-- The count, then the entries so far, then what stood there.
+use borrow.Author.Needs.{needs}
+use native.Mathlib.Omega.{arith}
+use native.Mathlib.Nat.{le-antisymm}
+use Prim.Native.Nat.{ℕ, _+_, _-_, _%_, _≤_, _<_}
+use mathlib.Core.Path.{_≡_, refl, sym, ap, ap₂, _∙_}
+use mathlib.Core.List.{List}
+use lib.ListN.{length, length-set}
+use lib.Seq.{sets}
+use denote.Ref.{now}
+use Rattle.basis.proofs.Tests.{None, none-first}
+use Rattle.levels.specs.Levels.{count}
+use Rattle.levels.specs.Lattice.{Lattice, lattice}
+use Rattle.rules.specs.Rules.{Cell, Store}
+use Rattle.rules.specs.Marks.{Mark, permissive}
+use Rattle.rules.specs.Stores.{entryAt, storeOf}
+use Rattle.flow.specs.Words.{cellIn, markIn}
+use Rattle.flow.proofs.Marking.{known-is, marks-known}
+use Rattle.flow.proofs.Entries.{same-mark}
+use Rattle.flow.proofs.Filling.{headed, headed-length, filled, fill-first, fill-next, fill-last}
+use Rattle.handout.specs.Requests.{askedCount, fieldAsked}
+use Rattle.handout.specs.Answers.{asksPartial, firstPartial, shown, allShown, answerBytes}
+use Rattle.handout.proofs.Requesting.{Right, right-has}
+use Rattle.handout.proofs.Answering.{whole-low, none-shown, one-shown-more, entry-length, entries-length}
+use Rattle.handout.proofs.answers.give.Statement.{statement}
+use Rattle.handout.proofs.answers.give.Tie as tie
+
+abbrev Inv-loop : tie.InvT-loop
+Inv-loop rows store reader request answer₀ asked i₀ answer i =
+    (i ≤ asked) × (answer ≡ filled (asked % 256) (allShown (lattice rows) reader (storeOf store) request i) i answer₀) × (length answer ≡ length answer₀)
+
+abbrev μ-loop : tie.MeasureT-loop
+μ-loop rows store reader request answer₀ asked i₀ answer i = asked - i
+
+-- what came in
+abbrev start-of : tie.After-count Inv-loop μ-loop → tie.Start Inv-loop μ-loop
+start-of c = c .before .before .before .before .before
+
+abbrev rows-of : tie.After-count Inv-loop μ-loop → Lattice
+rows-of c = lattice (now (start-of c .args .rows))
+
+abbrev store-of : tie.After-count Inv-loop μ-loop → Store Mark
+store-of c = storeOf (now (start-of c .args .store))
+
+abbrev request-of : tie.After-count Inv-loop μ-loop → List ℕ
+request-of c = now (start-of c .args .request)
+
+request-right : (start : tie.Start Inv-loop μ-loop) → Right (start .pre .asks .fields) (now (start .args .request))
+request-right start = right-has _ _ (start .pre .asks .right)
+
+none-partial : (c : tie.After-count Inv-loop μ-loop) → None (askedCount (request-of c)) (asksPartial (store-of c) (request-of c))
+unfolding firstPartial
+none-partial c = none-first _ _ (start-of c .pre .none-partial)
+
+inside : (c : tie.In-loop Inv-loop μ-loop) → c .before .loop .i < askedCount (request-of (c .before .before))
+inside c = omega (arith, c .loop-test .taken, c .before .before .count .ensures .0)
+
+count-requires : tie.Need-count-requires Inv-loop μ-loop
+count-requires c κs = omega (arith, request-right (c .before .before .before .before) .size)
+
+slice-write-answer : tie.Need-slice-write-answer Inv-loop μ-loop
+slice-write-answer c = omega (arith, start-of c .pre .room)
+
+slice-write-answer-2 : tie.Need-slice-write-answer-2 Inv-loop μ-loop
+slice-write-answer-2 c = simp length-set (omega (arith, start-of c .pre .room))
+
+loop-holds : tie.Need-loop-holds Inv-loop μ-loop
+loop-holds c =
+    let start = start-of c in
+    let asked = c .count .result % 256 in
+    let z = now (start .args .answer) in (
+      omega arith,
+      fill-first asked z (omega (arith, start .pre .room))
+          ∙ ap (λ (l : List ℕ). filled asked l 0 (headed asked z)) (sym (none-shown (rows-of c) (start .args .reader) (store-of c) (request-of c))),
+      refl,
+    )
+
+field-at-requires : tie.Need-field-at-requires Inv-loop μ-loop
+field-at-requires c κs =
+    let in-loop = c .before in
+    omega (arith, inside in-loop, request-right (start-of (in-loop .before .before)) .size)
+
+-- the field asked for is the sheet's
+abbrev asked-by : tie.After-field-at Inv-loop μ-loop → ℕ
+asked-by c = let in-loop = c .before .before in fieldAsked (request-of (in-loop .before .before)) (in-loop .before .loop .i)
+
+field-known : (c : tie.After-field-at Inv-loop μ-loop) → asked-by c < start-of (c .before .before .before .before) .pre .asks .fields
+field-known c = let in-loop = c .before .before in request-right (start-of (in-loop .before .before)) .known _ (inside in-loop)
+
+entry-at-requires : tie.Need-entry-at-requires Inv-loop μ-loop
+entry-at-requires c κs = omega (arith, c .field-at .ensures .0, field-known c, start-of (c .before .before .before .before) .pre .asks .long)
+
+-- the word read has the field's cell, and its mark is a level
+cell-is : (c : tie.After-entry-at Inv-loop μ-loop) → cellIn (c .entry-at .result) ≡ store-of (c .before .before .before .before .before) (asked-by (c .before))
+cell-is c = c .entry-at .ensures .0 ∙ ap (store-of (c .before .before .before .before .before)) (c .before .field-at .ensures .0)
+
+mark-level : (c : tie.After-entry-at Inv-loop μ-loop) → markIn (c .entry-at .result) < count (now (start-of (c .before .before .before .before .before) .args .rows))
+mark-level c =
+    let field = c .before in
+    let in-loop = field .before .before in
+    let counted = in-loop .before .before in
+    let given = start-of counted .pre in
+    let known = known-is _ _ (marks-known permissive _ _ _ (given .marks) (asked-by field) (field-known field)) .1 in
+    let low = whole-low _ _ (none-partial counted _ (inside in-loop)) in
+    omega (arith, same-mark _ _ _ (cell-is c))
+
+show-requires : tie.Need-show-requires Inv-loop μ-loop
+show-requires c κs =
+    let in-loop = c .before .before .before in
+    let at-loop = in-loop .before in
+    let start = start-of (at-loop .before) in
+    let asked = at-loop .before .count .result % 256 in
+    let long = headed-length asked (now (start .args .answer)) in (
+      omega (arith, inside in-loop, start .pre .room, at-loop .loop .inv .2),
+      record { rows = start .pre .order; first = mark-level c; second = start .pre .reader-known },
+    )
+
+loop-again : tie.Need-loop-again Inv-loop μ-loop
+loop-again c =
+    let call = c .before .before in
+    let word = call .before in
+    let in-loop = word .before .before .before in
+    let at-loop = in-loop .before in
+    let counted = at-loop .before in
+    let a = start-of counted .args in
+    let z = now (a .answer) in
+    let 𝓛 = rows-of counted in
+    let σ = store-of counted in
+    let request = request-of counted in
+    let i = at-loop .loop .i in
+    let inv = at-loop .loop .inv in
+    let asked = counted .count .result % 256 in
+    let less = inside in-loop in
+    let none = none-partial counted in (
+      omega (arith, in-loop .loop-test .taken),
+      call .show .ensures
+          ∙ ap₂ (λ (l : List ℕ) (d : Cell Mark). sets l (entryAt i) (shown 𝓛 (a .reader) d)) (inv .1) (cell-is word)
+          ∙ fill-next asked (allShown 𝓛 (a .reader) σ request i) _ i (headed asked z)
+          (entries-length 𝓛 (a .reader) σ request i (λ j h. none j (omega arith)))
+          (entry-length 𝓛 (a .reader) σ request _ none i less)
+          (omega (arith, start-of counted .pre .room, headed-length asked z))
+          ∙ ap (λ (l : List ℕ). filled asked l (i + 1) (headed asked z)) (one-shown-more 𝓛 (a .reader) σ request i),
+      call .show .kept .0 ∙ inv .2,
+    )
+
+same-length : tie.Need-same-length Inv-loop μ-loop
+same-length c =
+    let counted = c .before .before in
+    c .before .loop .inv .2 ∙ headed-length (counted .count .result % 256) (now (start-of counted .args .answer))
+
+returns : tie.Need-returns Inv-loop μ-loop
+unfolding answerBytes
+returns c =
+    let at-loop = c .before in
+    let counted = at-loop .before in
+    let a = start-of counted .args in
+    let z = now (a .answer) in
+    let all = le-antisymm (at-loop .loop .inv .0) (c .loop-test .left) in
+    let shown-by : ℕ → List ℕ = allShown (rows-of counted) (a .reader) (store-of counted) (request-of counted) in
+    at-loop .loop .inv .1
+    ∙ ap₂ (λ (k n : ℕ). filled (n % 256) (shown-by k) k (headed (n % 256) z)) (all ∙ counted .count .ensures .0) (counted .count .ensures .0)
+    ∙ fill-last (askedCount (request-of counted) % 256) (shown-by (askedCount (request-of counted))) (askedCount (request-of counted)) z
+
+pub give-spec : {M : Type 1} → statement M
+give-spec =
+    tie.close
+    (tie.spec
+    Inv-loop
+    μ-loop
+    count-requires
+    (λ c. search needs)
+    slice-write-answer
+    slice-write-answer-2
+    loop-holds
+    (λ c. search needs)
+    (λ c. search needs)
+    field-at-requires
+    entry-at-requires
+    show-requires
+    (λ c. search needs)
+    (λ c. search needs)
+    loop-again
+    same-length
+    returns)

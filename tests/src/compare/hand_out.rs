@@ -1,0 +1,63 @@
+//! What is compared of hand-out.
+
+use super::calls::Compared;
+use super::hex;
+use crate::model::{hand_out, number, HandOut, Outcome};
+use std::fmt;
+
+/// How often each number came back; hand-out gives those of `NUMBERS`.
+pub type Histogram = [u64; number::PARTIAL_ASKED as usize + 1];
+
+/// Hand-out gives 0, 1 to 9, 17, 11 and 18.
+pub const NUMBERS: [usize; 13] = [0, 1, 2, 3, 4, 5, 6, 7, 8, 9, 11, 17, 18];
+
+impl Compared for HandOut {
+    const NAME: &'static str = "hand-out";
+
+    type Histogram = Histogram;
+
+    fn outcome(&self) -> Outcome {
+        hand_out(self)
+    }
+
+    fn sheet(&self) -> &[u8] {
+        &self.sheet
+    }
+
+    fn output_before(&self) -> &[u8] {
+        &self.output
+    }
+
+    fn count(&self, histogram: &mut Histogram, number: u8) {
+        histogram[usize::from(number)] += 1;
+    }
+
+    fn describe(&self, out: &mut fmt::Formatter) -> fmt::Result {
+        writeln!(out, "reader {}", self.reader)?;
+        hex(out, "sheet", &self.sheet)?;
+        hex(out, "store", &self.store)?;
+        hex(out, "request", &self.request)
+    }
+}
+
+#[cfg(test)]
+mod tests {
+    use super::*;
+    use crate::compare::calls::tests::*;
+
+    #[test]
+    fn the_model_agrees_with_itself_and_the_generator() {
+        let histogram = with_itself::<HandOut>(10_000);
+        let counted = NUMBERS.map(|number| histogram[number]);
+        assert_eq!(counted.iter().sum::<u64>(), 10_000);
+        assert!(counted.iter().all(|&times| times > 40), "{histogram:?}");
+    }
+
+    #[test]
+    fn all_of_a_hand_out_is_compared() {
+        every_bit_of_the_word_is_compared::<HandOut>();
+        every_byte_of_memory_is_compared::<HandOut>();
+        changed_inputs_are_a_difference::<HandOut>();
+        a_difference_tells_how_to_replay_it::<HandOut>();
+    }
+}

@@ -1,0 +1,121 @@
+//! The model of hand-out: takes sheet, store, reader level and request and
+//! writes the dealer's answer. Here stand the call, its checks in the order of
+//! the table and what it brings about; `rules` has what decides.
+
+pub mod rules;
+
+use self::rules::{Rules, DOCUMENT};
+use super::answer::number::{DONE, MARK, OUTPUT, PARTIAL_ASKED, REQUEST, STORE};
+use super::sheet::{Sheet, COUNT_BYTES};
+use super::store::{count, entries, Marked, Store};
+use super::{judged, Answer, Outcome};
+
+/// A call of hand-out.
+#[derive(Clone, Debug, PartialEq, Eq)]
+pub struct HandOut {
+    pub sheet: Vec<u8>,
+    pub store: Vec<u8>,
+    pub reader: u32,
+    pub request: Vec<u8>,
+    /// What stands in the output before the call.
+    pub output: Vec<u8>,
+}
+
+/// The bytes of an asked field's number.
+pub const NUMBER_BYTES: usize = 2;
+
+/// A request of these field numbers.
+pub fn request(fields: &[usize]) -> Vec<u8> {
+    let numbers = [fields.len()].into_iter().chain(fields.iter().copied());
+    numbers.flat_map(|n| (n as u16).to_le_bytes()).collect()
+}
+
+/// The field numbers that stand whole behind a request's count.
+pub fn asked(request: &[u8]) -> impl Iterator<Item = usize> + '_ {
+    let numbers = request.get(COUNT_BYTES..).unwrap_or(&[]);
+    let number = |bytes: &[u8]| usize::from(u16::from_le_bytes([bytes[0], bytes[1]]));
+    numbers.chunks_exact(NUMBER_BYTES).map(number)
+}
+
+/// Hand-out by the document's rules.
+pub fn hand_out(call: &HandOut) -> Outcome {
+    hand_out_by(&DOCUMENT, call)
+}
+
+/// Hand-out by these rules.
+pub fn hand_out_by(rules: &Rules, call: &HandOut) -> Outcome {
+    match Asked::checked(rules, call) {
+        Ok(asked) => asked.outcome(rules),
+        Err(number) => Outcome::refused(Answer::plain(number)),
+    }
+}
+
+/// A call that has passed the checks up to row 11.
+pub struct Asked {
+    pub sheet: Sheet,
+    pub store: Store,
+    pub reader: usize,
+    /// The asked fields' numbers, in the order of the request.
+    pub fields: Vec<usize>,
+}
+
+impl Asked {
+    /// Rows 1 to 7, 8, 9, 17 and 11, in the order of checks.
+    pub fn checked(rules: &Rules, call: &HandOut) -> Result<Asked, u8> {
+        let sheet = judged(&call.sheet)?;
+        if !(rules.store_fits)(&sheet, &call.store) {
+            return Err(STORE);
+        }
+        if !entries(&call.store).all(|(mark, _)| (rules.mark_is_right)(&sheet, mark)) {
+            return Err(MARK);
+        }
+        let fields = request_fields(rules, &sheet, call).ok_or(REQUEST)?;
+        if !(rules.output_is_long_enough)(fields.len(), call.output.len()) {
+            return Err(OUTPUT);
+        }
+        Ok(Asked {
+            store: Store::read(&sheet, &call.store),
+            sheet,
+            reader: call.reader as usize,
+            fields,
+        })
+    }
+
+    /// The asked fields' values and marks, in the order of the request.
+    pub fn marked(&self) -> impl Iterator<Item = Marked> + '_ {
+        self.fields.iter().map(|&field| self.store.fields[field])
+    }
+
+    /// Row 18, or the answer: the count, then per asked field 5 bytes. Units are
+    /// 0 for hand-out.
+    fn outcome(&self, rules: &Rules) -> Outcome {
+        if let Some(position) = (rules.refused_position)(self) {
+            return Outcome::refused(Answer {
+                place: position as u16,
+                ..Answer::plain(PARTIAL_ASKED)
+            });
+        }
+        let mut written = (self.fields.len() as u16).to_le_bytes().to_vec();
+        for field in self.marked() {
+            let (flag, value) = (rules.entry)(&self.sheet.levels, self.reader, field);
+            written.push(flag);
+            written.extend((value as i32).to_le_bytes());
+        }
+        Outcome {
+            answer: Answer::plain(DONE),
+            written,
+        }
+    }
+}
+
+/// Row 17: reader unknown, request's size, count or a field number wrong.
+fn request_fields(rules: &Rules, sheet: &Sheet, call: &HandOut) -> Option<Vec<usize>> {
+    let count = count(&call.request)?;
+    let right = (rules.reader_is_known)(&sheet.levels, call.reader)
+        && (rules.count_is_right)(count)
+        && (rules.size_is_right)(count, call.request.len())
+        && asked(&call.request)
+            .take(count)
+            .all(|field| (rules.field_is_known)(sheet, field));
+    right.then(|| asked(&call.request).take(count).collect())
+}

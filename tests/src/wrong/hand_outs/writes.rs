@@ -1,0 +1,166 @@
+//! Hand-outs wrong about what they answer and write, on success and on refusal.
+
+use super::WrongHandOut;
+use crate::model::hand_out::rules::{Rules, DOCUMENT};
+use crate::model::hand_out::{asked, hand_out_by, request};
+use crate::model::number::{DONE, NODE, OUTPUT, PARTIAL_ASKED, REQUEST};
+use crate::model::store::ENTRY_BYTES;
+use crate::model::{Answer, HandOut, Outcome};
+use crate::wrong::calls::{entries, fitting, Answering, Faults, Making, Spoiling, Writing};
+
+pub fn hand_outs() -> Vec<WrongHandOut> {
+    let on_success = ON_SUCCESS.iter().copied().map(WrongHandOut::writing);
+    let on_refusal = ON_REFUSAL.iter().copied().map(WrongHandOut::spoiling);
+    let fixed = FIXED.iter().copied().map(WrongHandOut::making);
+    let answers = ANSWERS.iter().copied().map(WrongHandOut::answering);
+    on_success
+        .chain(on_refusal)
+        .chain(fixed)
+        .chain(answers)
+        .collect()
+}
+
+const ON_SUCCESS: Faults<Writing<HandOut>> = &[
+    ("the fields' count for the request's", |call, written| {
+        written[..2].copy_from_slice(&call.store[..2]);
+    }),
+    (
+        "the request's first field for the count",
+        |call, written| {
+            let first = asked(&call.request).next().unwrap_or(0);
+            written[..2].copy_from_slice(&(first as u16).to_le_bytes());
+        },
+    ),
+    ("a closed field's bytes not written", |call, written| {
+        for entry in entries(written) {
+            if written[entry.start] == 0 {
+                written[entry.clone()].copy_from_slice(&call.output[entry]);
+            }
+        }
+    }),
+    ("a closed field's value not written", |call, written| {
+        for entry in entries(written) {
+            if written[entry.start] == 0 {
+                let value = entry.start + 1..entry.end;
+                written[value.clone()].copy_from_slice(&call.output[value]);
+            }
+        }
+    }),
+    ("the answers in the fields' order", |call, written| {
+        let mut order: Vec<(usize, usize)> = asked(&call.request).zip(0..).collect();
+        order.sort_unstable();
+        let right = written.clone();
+        for ((_, from), entry) in order.into_iter().zip(entries(&right)) {
+            let from = 2 + ENTRY_BYTES * from;
+            written[entry].copy_from_slice(&right[from..from + ENTRY_BYTES]);
+        }
+    }),
+    ("a repeat answered as closed", |call, written| {
+        let fields: Vec<usize> = asked(&call.request).collect();
+        for (position, entry) in entries(&written.clone()).enumerate() {
+            if fields[..position].contains(&fields[position]) {
+                written[entry].fill(0);
+            }
+        }
+    }),
+    ("the first fields for the asked ones", |call, written| {
+        let mut numbered = call.clone();
+        let fields = usize::from(call.store[0]);
+        let count = asked(&call.request).count();
+        let first: Vec<usize> = (0..count).map(|position| position % fields).collect();
+        numbered.request = request(&first);
+        *written = hand_out_by(&UNREFUSED, &numbered).written;
+    }),
+];
+
+/// Whatever is partial.
+const UNREFUSED: Rules = Rules {
+    refused_position: |_| None,
+    ..DOCUMENT
+};
+
+/// What would be written if nothing were partial.
+fn unrefused(call: &HandOut) -> Vec<u8> {
+    hand_out_by(&UNREFUSED, call).written
+}
+
+const ON_REFUSAL: Faults<Spoiling<HandOut>> = &[
+    ("the count written on 18", |call, answer| {
+        match answer.number {
+            PARTIAL_ASKED => call.request[..2].to_vec(),
+            _ => Vec::new(),
+        }
+    }),
+    (
+        "the answer up to the partial field written on 18",
+        |call, answer| match answer.number {
+            PARTIAL_ASKED => {
+                let mut written = unrefused(call);
+                written.truncate(2 + ENTRY_BYTES * usize::from(answer.place));
+                written
+            }
+            _ => Vec::new(),
+        },
+    ),
+    (
+        "the whole answer written on 18",
+        |call, answer| match answer.number {
+            PARTIAL_ASKED => unrefused(call),
+            _ => Vec::new(),
+        },
+    ),
+    ("the request written on 17", |call, answer| {
+        match answer.number {
+            REQUEST => fitting(call, &call.request),
+            _ => Vec::new(),
+        }
+    }),
+    ("the count written on 11", |call, answer| {
+        match answer.number {
+            OUTPUT => fitting(call, &call.request[..2]),
+            _ => Vec::new(),
+        }
+    }),
+];
+
+const FIXED: Faults<Making<HandOut>> = &[
+    ("every sheet refused", |_, _| {
+        Outcome::refused(Answer::plain(NODE))
+    }),
+    ("every request refused", |_, right| {
+        match right.answer.number {
+            DONE => Outcome::refused(Answer::plain(REQUEST)),
+            _ => right,
+        }
+    }),
+    ("an empty answer to all", |_, right| {
+        match right.answer.number {
+            DONE | PARTIAL_ASKED => Outcome {
+                answer: Answer::plain(DONE),
+                written: vec![0, 0],
+            },
+            _ => right,
+        }
+    }),
+];
+
+const ANSWERS: Faults<Answering<HandOut>> = &[
+    ("the count as units", |call, answer| match answer.number {
+        DONE => Answer {
+            units: asked(&call.request).count() as u32,
+            ..answer
+        },
+        _ => answer,
+    }),
+    ("the wrong field's position told on 17", |call, answer| {
+        let fields = usize::from(call.store.first().copied().unwrap_or(0));
+        let wrong = asked(&call.request).position(|field| field >= fields);
+        match answer.number {
+            REQUEST => Answer {
+                place: wrong.unwrap_or(0) as u16,
+                ..answer
+            },
+            _ => answer,
+        }
+    }),
+];
