@@ -1,7 +1,12 @@
 /* Beltuqash: runs calculation sheets so that closed fields stay closed.
  *
- * Every call takes any bytes. It keeps nothing, writes nothing but what is said here, and may be called from any thread.
- * A call answers one word: a number (0 is success), a place and the units spent. */
+ * A call answers one word: a number (0 is success), a place and the units spent. Places and units are for the house, never for a dealer.
+ *
+ * Bytes: every call takes any bytes, of any length. It reads the stated lengths and nothing else. A pointer may be null where its length is 0.
+ * Ownership: all memory stays the caller's. Nothing is allocated, kept or freed; a pointer is not used after the call.
+ * Overlap: what is only read may overlap. What is written (out, answer) must overlap nothing else that is lent.
+ * Refusals: a number but 0 means that nothing was written. Success writes exactly the size stated below; later bytes stay.
+ * Threads: there is no state, so any thread may call at any time, as long as none writes what is lent to another's call or reads its output. */
 #ifndef BELTUQASH_H
 #define BELTUQASH_H
 
@@ -12,18 +17,19 @@
 extern "C" {
 #endif
 
-/* Judges a sheet. Numbers 0 to 7; place and units are 0. Reads sheet_len bytes at sheet, which may be null if sheet_len is 0. */
+/* Judges a sheet. A sheet that passes has at most 9,768 bytes. Numbers 0 to 7; place and units are 0. */
 uint64_t beltuqash_load(const uint8_t *sheet, size_t sheet_len);
 
-/* Runs a sheet from a store and writes the final store to out: 2 bytes, and 5 per field; later bytes of out stay. A refusal writes nothing.
- * mode is BELTUQASH_STRICT or BELTUQASH_PERMISSIVE, fuel at most 1,000,000; any other number is refused with 10. out must not overlap the
- * sheet or the store. Numbers 0 to 16; the place is a node's number for 12 to 16; the units are those spent, 0 for 1 to 11. */
+/* Runs a sheet from a store and writes the final store to out: 2 bytes, and 5 per field, so at most 322. The sheet is judged first, as load does.
+ * mode is BELTUQASH_STRICT or BELTUQASH_PERMISSIVE, fuel at most 1,000,000; any other number is refused with 10. To run on from a final store,
+ * lend it as the store and other memory as out. Numbers 0 to 16; the place is a node's number for 12 to 16; the units are those spent,
+ * 0 for 1 to 11. */
 uint64_t beltuqash_run(const uint8_t *sheet, size_t sheet_len, const uint8_t *store, size_t store_len, uint32_t mode, uint32_t fuel,
                        uint8_t *out, size_t out_len);
 
 /* Hands a reader what a request asks of a store and writes the answer: 2 bytes, and 5 per asked field (1 and the value, or 0 and value 0 if
- * the reader may not see it); later bytes of answer stay. A refusal writes nothing. reader is a level of the sheet. answer must not overlap the
- * sheet, the store or the request. Numbers 0 to 9, 11, 17 and 18; the place is a position in the request, from 0, for 18; the units are 0. */
+ * the reader may not see it), so at most 322. reader is a level of the sheet. A partial field asked refuses the whole request.
+ * Numbers 0 to 9, 11, 17 and 18; the place is a position in the request, from 0, for 18; the units are 0. */
 uint64_t beltuqash_hand_out(const uint8_t *sheet, size_t sheet_len, const uint8_t *store, size_t store_len, uint32_t reader,
                             const uint8_t *request, size_t request_len, uint8_t *answer, size_t answer_len);
 
@@ -56,6 +62,33 @@ enum beltuqash_number {
 static inline unsigned beltuqash_number(uint64_t word) { return (unsigned)(word & 0xff); }
 static inline unsigned beltuqash_place(uint64_t word) { return (unsigned)(word >> 8 & 0xffff); }
 static inline uint32_t beltuqash_units(uint64_t word) { return (uint32_t)(word >> 32); }
+
+/* What a number means, in plain words, for the house. The text is constant: never null, never to be freed. */
+static inline const char *beltuqash_reason(unsigned number)
+{
+    switch (number) {
+    case BELTUQASH_DONE: return "done, nothing was refused";
+    case BELTUQASH_SHEET_LENGTH: return "the sheet ends too soon, or bytes are left after its last node";
+    case BELTUQASH_COUNT_OUTSIDE: return "the sheet has too few or too many levels, fields, constants or nodes";
+    case BELTUQASH_LEVELS_WRONG: return "the levels are not ordered so that every two have a join and a meet";
+    case BELTUQASH_NAME_WRONG: return "a field's name is not written as names are, or two fields have the same name";
+    case BELTUQASH_NODE_WRONG: return "a node has a wrong kind, operator, child or index, or something in a place that it does not use";
+    case BELTUQASH_NOT_USED_ONCE: return "a node is used twice or not at all, or the last node is not a command";
+    case BELTUQASH_TOO_DEEP: return "the nodes are nested more than 64 deep";
+    case BELTUQASH_STORE_MISFIT: return "the store is not as long as the sheet's fields need, or counts another number of fields";
+    case BELTUQASH_MARK_WRONG: return "a mark in the store has a level that the sheet does not have, or is partial where the run is strict";
+    case BELTUQASH_MODE_OR_FUEL: return "the mode is neither strict nor permissive, or the fuel is over 1,000,000";
+    case BELTUQASH_OUT_SHORT: return "the memory for the final store or the answer is too short";
+    case BELTUQASH_FUEL_SPENT: return "the fuel was used up before the sheet was done";
+    case BELTUQASH_OUT_OF_RANGE: return "a result is too great or too small for a number of 32 bits";
+    case BELTUQASH_DIVISOR_ZERO: return "a number would be divided by 0";
+    case BELTUQASH_NOT_BELOW: return "a field would be written under a test whose level is not at or below the field's (strict)";
+    case BELTUQASH_PARTIAL_TEST: return "an if or while would test a partial value, and which way it goes could tell a closed one (permissive)";
+    case BELTUQASH_READER_OR_REQUEST: return "the reader is not a level of the sheet, or the request's size, count or a field number is wrong";
+    case BELTUQASH_PARTIAL_ASKED: return "a partial field is asked for, and a price or a blank there could tell a closed value";
+    default: return "no such number";
+    }
+}
 
 #ifdef __cplusplus
 }

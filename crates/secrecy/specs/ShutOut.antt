@@ -1,6 +1,6 @@
 -- What demand 2 shuts out, though demand 3 alone would let it pass: a monitor that refuses all sheets, runs or requests, a load that passes everything,
 -- and a call with a fixed answer. A call is what meets its contract: the word that it answers for everything that comes in.
-use Prim.Native.Nat.{ℕ}
+use Prim.Native.Nat.{ℕ, _%_}
 use native.Mathlib.Omega.{arith}
 use mathlib.Core.Path.{_≡_, refl, sym, _∙_}
 use mathlib.Core.List.{List, [], _∷_}
@@ -9,6 +9,10 @@ use Rattle.value.specs.Bytes.{bitsOf, bytesOf}
 use Rattle.beltuqash.specs.Answer.{wordOf}
 use Rattle.beltuqash.specs.Calls.{load, run, handOut, calling}
 use Rattle.secrecy.specs.Flag.{flagSheet, storeAt}
+
+-- the number in an answer word
+abbrev numberIn : ℕ → ℕ
+numberIn word = word % 256
 
 -- ── load ────────────────────────────────────────────────────────────────────────────────────
 
@@ -24,14 +28,14 @@ unfolding calling
 nothing-refused = refl
 
 module _ (f : List ℕ → ℕ) (meets : Load f) where
-  pub refuses-all-sheets : ((sheet : List ℕ) → f sheet ≡ 0 → ⊥) → ⊥
-  refuses-all-sheets refuses = refuses flagSheet (meets flagSheet ∙ flag-passes)
+  pub refuses-all-sheets : ((sheet : List ℕ) → numberIn (f sheet) ≡ 0 → ⊥) → ⊥
+  refuses-all-sheets refuses = refuses flagSheet (omega (arith, meets flagSheet, flag-passes))
 
-  pub passes-everything : ((sheet : List ℕ) → f sheet ≡ 0) → ⊥
-  passes-everything passes = omega (arith, sym (meets []) ∙ passes [], nothing-refused)
+  pub passes-everything : ((sheet : List ℕ) → numberIn (f sheet) ≡ 0) → ⊥
+  passes-everything passes = omega (arith, passes [], meets [], nothing-refused)
 
   pub fixed-load : (word : ℕ) → ((sheet : List ℕ) → f sheet ≡ word) → ⊥
-  fixed-load word fixed = passes-everything (λ sheet. fixed sheet ∙ sym (fixed flagSheet) ∙ meets flagSheet ∙ flag-passes)
+  fixed-load word fixed = omega (arith, fixed flagSheet, fixed [], meets flagSheet, meets [], flag-passes, nothing-refused)
 
 -- ── run ─────────────────────────────────────────────────────────────────────────────────────
 
@@ -48,8 +52,8 @@ unfolding calling
 mode-refused = refl
 
 module _ (f : List ℕ → List ℕ → ℕ → ℕ → List ℕ → ℕ) (meets : Run f) where
-  pub refuses-all-runs : ((sheet store : List ℕ) (mode fuel : ℕ) (out : List ℕ) → f sheet store mode fuel out ≡ 25769803776 → ⊥) → ⊥
-  refuses-all-runs refuses = refuses flagSheet (storeAt 600) 0 1000 (storeAt 600) (meets _ _ _ _ _ ∙ flag-runs)
+  pub refuses-all-runs : ((sheet store : List ℕ) (mode fuel : ℕ) (out : List ℕ) → numberIn (f sheet store mode fuel out) ≡ 0 → ⊥) → ⊥
+  refuses-all-runs refuses = refuses flagSheet (storeAt 600) 0 1000 (storeAt 600) (omega (arith, meets flagSheet (storeAt 600) 0 1000 (storeAt 600), flag-runs))
 
   pub fixed-run : (word : ℕ) → ((sheet store : List ℕ) (mode fuel : ℕ) (out : List ℕ) → f sheet store mode fuel out ≡ word) → ⊥
   fixed-run word fixed =
@@ -72,8 +76,10 @@ unfolding flagSheet storeAt operating bitsOf bytesOf calling
 request-refused = refl
 
 module _ (f : List ℕ → List ℕ → ℕ → List ℕ → List ℕ → ℕ) (meets : HandOut f) where
-  pub refuses-all-requests : ((sheet store : List ℕ) (reader : ℕ) (request out : List ℕ) → f sheet store reader request out ≡ 0 → ⊥) → ⊥
-  refuses-all-requests refuses = refuses flagSheet (storeAt 600) 0 (1 ∷ 0 ∷ 1 ∷ 0 ∷ []) (storeAt 600) (meets _ _ _ _ _ ∙ q-handed-out)
+  pub refuses-all-requests : ((sheet store : List ℕ) (reader : ℕ) (request out : List ℕ) → numberIn (f sheet store reader request out) ≡ 0 → ⊥) → ⊥
+  refuses-all-requests refuses =
+      refuses flagSheet (storeAt 600) 0 (1 ∷ 0 ∷ 1 ∷ 0 ∷ []) (storeAt 600)
+      (omega (arith, meets flagSheet (storeAt 600) 0 (1 ∷ 0 ∷ 1 ∷ 0 ∷ []) (storeAt 600), q-handed-out))
 
   pub fixed-hand-out : (word : ℕ) → ((sheet store : List ℕ) (reader : ℕ) (request out : List ℕ) → f sheet store reader request out ≡ word) → ⊥
   fixed-hand-out word fixed =

@@ -9,6 +9,7 @@ pub fn all() -> Vec<(&'static str, Sheet)> {
         ("flag.sheet", flag()),
         ("name-twice.sheet", name_twice()),
         ("runner.sheet", runners()),
+        ("sealed.sheet", sealed_flag()),
     ]
 }
 

@@ -1,0 +1,454 @@
+/* Throws damaged input at the three calls and watches all memory around what is lent.
+ *
+ * Sheets come from the files that it is given and from others made here. They, their stores and their requests are cut, grown, changed in some bytes or
+ * replaced by random ones; outputs are long enough, too short or null. What is lent lies against a page that nobody may touch, at its front or its
+ * end, or in a heap block of its own size, so that a read outside ends the program (the heap block: under valgrind). The output lies among guard bytes.
+ * After each call: the inputs are unchanged, nothing outside the output is written, a refusal wrote nothing, success wrote the stated size and no more,
+ * and the word is one that the call may answer. The order of random numbers is fixed; an argument -n N sets how many rounds. */
+#define _DEFAULT_SOURCE
+#include "beltuqash.h"
+
+#include <stdio.h>
+#include <stdlib.h>
+#include <string.h>
+#include <sys/mman.h>
+#include <unistd.h>
+
+enum { ROOM = 16384, GUARD = 0xa5, MOST_FUEL = 1000000, MOST_FIELDS = 64, NUMBERS = 19, BASES = 16 };
+
+/* ---- random numbers, always the same ---- */
+
+static uint64_t state = 0x9e3779b97f4a7c15u;
+
+static uint32_t below(uint32_t bound)
+{
+    state ^= state << 13;
+    state ^= state >> 7;
+    state ^= state << 17;
+    return (uint32_t)((state >> 32) % bound);
+}
+
+/* ---- failing ---- */
+
+static const char *calling = "nothing";
+
+static void demand(int holds, const char *what)
+{
+    if (holds)
+        return;
+    fprintf(stderr, "%s: %s\n", calling, what);
+    exit(EXIT_FAILURE);
+}
+
+/* ---- bytes that are lent ---- */
+
+struct bytes {
+    size_t length;
+    uint8_t at[ROOM];
+};
+
+/* ROOM bytes between two pages that nobody may touch. */
+struct fenced {
+    uint8_t *room;
+};
+
+static struct fenced fence(void)
+{
+    size_t page = (size_t)sysconf(_SC_PAGESIZE);
+    demand(page != 0 && ROOM % page == 0, "pages of a size that this test does not know");
+    uint8_t *start = mmap(NULL, page + ROOM + page, PROT_NONE, MAP_PRIVATE | MAP_ANONYMOUS, -1, 0);
+    demand(start != MAP_FAILED, "no memory");
+    demand(mprotect(start + page, ROOM, PROT_READ | PROT_WRITE) == 0, "no memory");
+    return (struct fenced){start + page};
+}
+
+/* An input as it is lent: a copy of what is meant, in a fenced room or on the heap. */
+struct lent {
+    const struct bytes *meant;
+    uint8_t *copy;
+    int on_heap;
+};
+
+static struct lent lend(const struct fenced *fenced, const struct bytes *meant)
+{
+    struct lent lent = {meant, NULL, 0};
+    switch (below(3)) {
+    case 0: lent.copy = fenced->room; break;
+    case 1: lent.copy = fenced->room + ROOM - meant->length; break;
+    default:
+        lent.on_heap = 1;
+        if (meant->length == 0)
+            return lent; /* null with length 0 */
+        lent.copy = malloc(meant->length);
+        demand(lent.copy != NULL, "no memory");
+    }
+    memcpy(lent.copy, meant->at, meant->length);
+    return lent;
+}
+
+static void take_back(struct lent lent)
+{
+    demand(lent.meant->length == 0 || memcmp(lent.copy, lent.meant->at, lent.meant->length) == 0, "an input was changed");
+    if (lent.on_heap)
+        free(lent.copy);
+}
+
+/* The output's room: guard bytes all over, the output at its front, its end or in the middle. */
+static struct fenced output_room;
+
+static uint8_t *lend_output(size_t length)
+{
+    memset(output_room.room, GUARD, ROOM);
+    switch (below(length == 0 ? 4 : 3)) {
+    case 0: return output_room.room;
+    case 1: return output_room.room + ROOM - length;
+    case 2: return output_room.room + ROOM / 2;
+    default: return NULL; /* null with length 0 */
+    }
+}
+
+/* All of the output's room is as it was, but for `written` bytes at `out`. */
+static void take_back_output(const uint8_t *out, size_t written)
+{
+    static uint8_t guards[ROOM];
+    memset(guards, GUARD, ROOM);
+    size_t before = written == 0 ? 0 : (size_t)(out - output_room.room), after = before + written;
+    demand(memcmp(output_room.room, guards, before) == 0, "a byte before the output was written");
+    demand(memcmp(output_room.room + after, guards, ROOM - after) == 0, "a byte was written that should stay");
+}
+
+/* ---- the calls, watched ---- */
+
+enum call { LOAD, RUN, HAND_OUT, CALLS };
+
+static const char *const call_names[CALLS] = {"load", "run", "hand-out"};
+
+/* The numbers that each call may answer, from 0 to 18. */
+static const char *const call_numbers[CALLS] = {"yyyyyyyynnnnnnnnnnn", "yyyyyyyyyyyyyyyyynn", "yyyyyyyyyynynnnnnyy"};
+
+static struct fenced sheet_room, store_room, request_room;
+static unsigned long seen[CALLS][NUMBERS]; /* how often each number came */
+
+/* Counts a word, and demands what holds of every word: its number is one of the call's, and place and units come only with numbers that have them. */
+static unsigned count(enum call call, uint64_t word)
+{
+    unsigned number = beltuqash_number(word);
+    demand(number < NUMBERS && call_numbers[call][number] == 'y', "a number that this call does not have");
+    demand((word >> 24 & 0xff) == 0, "bits of the word that mean nothing are set");
+    int has_place = 12 <= number && number != BELTUQASH_READER_OR_REQUEST;
+    int has_units = number == 0 || (12 <= number && number <= 16);
+    demand(has_place || beltuqash_place(word) == 0, "a place where there is none");
+    demand(has_units || beltuqash_units(word) == 0, "units where there are none");
+    seen[call][number]++;
+    return number;
+}
+
+static unsigned load(const struct bytes *sheet)
+{
+    calling = call_names[LOAD];
+    struct lent s = lend(&sheet_room, sheet);
+    uint64_t word = beltuqash_load(s.copy, sheet->length);
+    take_back(s);
+    demand(beltuqash_units(word) == 0, "units where there are none");
+    return count(LOAD, word);
+}
+
+static unsigned run(const struct bytes *sheet, const struct bytes *store, uint32_t mode, uint32_t fuel, size_t out_len, struct bytes *final_store)
+{
+    calling = call_names[RUN];
+    struct lent s = lend(&sheet_room, sheet), t = lend(&store_room, store);
+    uint8_t *out = lend_output(out_len);
+    uint64_t word = beltuqash_run(s.copy, sheet->length, t.copy, store->length, mode, fuel, out, out_len);
+    take_back(s);
+    take_back(t);
+    unsigned number = count(RUN, word);
+    demand(beltuqash_units(word) <= fuel, "more units than fuel");
+    demand(beltuqash_place(word) < 1024, "a place that no node has");
+    size_t written = number == BELTUQASH_DONE ? store->length : 0;
+    demand(written <= out_len, "success with a short output");
+    take_back_output(out, written);
+    if (number == BELTUQASH_DONE) {
+        demand(memcmp(out, store->at, 2) == 0, "the final store has another count");
+        final_store->length = written;
+        memcpy(final_store->at, out, written);
+    }
+    return number;
+}
+
+static unsigned hand_out(const struct bytes *sheet, const struct bytes *store, uint32_t reader, const struct bytes *request, size_t answer_len)
+{
+    calling = call_names[HAND_OUT];
+    struct lent s = lend(&sheet_room, sheet), t = lend(&store_room, store), r = lend(&request_room, request);
+    uint8_t *answer = lend_output(answer_len);
+    uint64_t word = beltuqash_hand_out(s.copy, sheet->length, t.copy, store->length, reader, r.copy, request->length, answer, answer_len);
+    take_back(s);
+    take_back(t);
+    take_back(r);
+    unsigned number = count(HAND_OUT, word);
+    size_t asked = request->length < 2 ? 0 : (request->length - 2) / 2;
+    demand(number != BELTUQASH_PARTIAL_ASKED || beltuqash_place(word) < asked, "a place that the request does not have");
+    size_t written = number == BELTUQASH_DONE ? 2 + 5 * asked : 0;
+    demand(written <= answer_len, "success with a short answer");
+    take_back_output(answer, written);
+    for (size_t i = 0; i < asked && number == BELTUQASH_DONE; i++) {
+        const uint8_t *entry = answer + 2 + 5 * i;
+        demand(entry[0] == 1 || (entry[0] == 0 && memcmp(entry, "\0\0\0\0", 5) == 0), "an entry neither told nor blank");
+    }
+    return number;
+}
+
+/* ---- what is thrown ---- */
+
+/* A sheet that is right (or too deep), and how many fields and levels it has. */
+struct base {
+    struct bytes sheet;
+    unsigned number, fields, levels;
+};
+
+static struct base bases[BASES];
+static size_t base_count;
+
+static void add_base(const struct bytes *sheet, unsigned number)
+{
+    demand(base_count < BASES, "too many sheets");
+    struct base *base = &bases[base_count++];
+    base->sheet = *sheet;
+    base->number = number;
+    base->levels = sheet->at[0];
+    base->fields = sheet->at[2 + 2 * base->levels];
+}
+
+static void append(struct bytes *to, const uint8_t *from, size_t length)
+{
+    memcpy(to->at + to->length, from, length);
+    to->length += length;
+}
+
+/* q := not not .. 7, so many deep. */
+static void add_nest(uint8_t depth, unsigned number)
+{
+    static struct bytes sheet;
+    static const uint8_t head[] = {1, 0, 1, 0, 1, 0, 'q', 0, 0, 0, 0, 0, 0, 0, 1, 0, 7, 0, 0, 0};
+    static const uint8_t constant[8] = {0};
+    sheet.length = 0;
+    append(&sheet, head, sizeof head);
+    append(&sheet, (const uint8_t[]){depth, 0}, 2);
+    append(&sheet, constant, sizeof constant);
+    for (uint8_t node = 1; node + 1 < depth; node++)
+        append(&sheet, (const uint8_t[]){3, 0, (uint8_t)(node - 1), 0, 0, 0, 0, 0}, 8);
+    append(&sheet, (const uint8_t[]){6, 0, 0, 0, (uint8_t)(depth - 2), 0, 0, 0}, 8);
+    add_base(&sheet, number);
+}
+
+/* q := r / q. */
+static void add_quotient(void)
+{
+    static const struct bytes sheet = {58, {1, 0, 1, 0, 2, 0, 'q', 0, 0, 0, 0, 0, 0, 0, 'r', 0, 0, 0, 0, 0, 0, 0, 0, 0, 4, 0,
+                                            1, 0, 1, 0, 0, 0, 0, 0, 1, 0, 0, 0, 0, 0, 0, 0, 2, 3, 0, 0, 1, 0, 0, 0, 6, 0, 0, 0, 2, 0, 0, 0}};
+    add_base(&sheet, BELTUQASH_DONE);
+}
+
+static void add_file(const char *path)
+{
+    static struct bytes sheet;
+    FILE *file = fopen(path, "rb");
+    demand(file != NULL, path);
+    sheet.length = fread(sheet.at, 1, ROOM / 2, file);
+    demand(!ferror(file), path);
+    fclose(file);
+    unsigned number = load(&sheet);
+    if (number == BELTUQASH_DONE)
+        add_base(&sheet, number);
+}
+
+/* A store that fits: marks that the sheet has; values at the edges, small or any. */
+static void make_store(struct bytes *store, const struct base *base, int partial)
+{
+    store->length = 2 + 5 * base->fields;
+    store->at[0] = (uint8_t)base->fields;
+    store->at[1] = 0;
+    for (unsigned i = 0; i < base->fields; i++) {
+        static const uint32_t edges[] = {0, 1, 0x7fffffff, 0x80000000, 0xffffffff};
+        uint32_t values[] = {edges[below(5)], below(1000), below(0xffffffff)};
+        uint32_t value = values[below(3)];
+        uint8_t *entry = store->at + 2 + 5 * i;
+        entry[0] = (uint8_t)(below(base->levels) + (partial && below(4) == 0 ? 16 : 0));
+        for (int j = 0; j < 4; j++)
+            entry[1 + j] = (uint8_t)(value >> 8 * j);
+    }
+}
+
+/* A request that is right, of up to 64 fields. */
+static void make_request(struct bytes *request, const struct base *base)
+{
+    unsigned asked = below(below(4) == 0 ? 65 : 4);
+    request->length = 2 + 2 * asked;
+    request->at[0] = (uint8_t)asked;
+    request->at[1] = 0;
+    for (unsigned i = 0; i < asked; i++) {
+        request->at[2 + 2 * i] = (uint8_t)below(base->fields);
+        request->at[3 + 2 * i] = 0;
+    }
+}
+
+/* Cuts, grows, changes or replaces. */
+static void damage(struct bytes *bytes)
+{
+    static const uint8_t edges[] = {0, 1, 2, 15, 16, 31, 32, 63, 64, 65, 127, 128, 255};
+    uint32_t grown;
+    switch (below(8)) {
+    case 0: bytes->length = below((uint32_t)bytes->length + 1); break;
+    case 1:
+        grown = 1 + below(40);
+        for (uint32_t i = 0; i < grown; i++)
+            bytes->at[bytes->length++] = (uint8_t)below(256);
+        break;
+    case 2:
+        bytes->length = below(below(8) == 0 ? 4000 : 120);
+        for (size_t i = 0; i < bytes->length; i++)
+            bytes->at[i] = (uint8_t)below(256);
+        break;
+    default:
+        for (uint32_t i = 1 + below(3); i > 0 && bytes->length > 0; i--)
+            bytes->at[below((uint32_t)bytes->length)] = below(2) ? edges[below(sizeof edges)] : (uint8_t)below(256);
+    }
+}
+
+/* Whether a sheet's number is the run's or the hand-out's too: both judge the sheet first. */
+static void demand_sheets_number(unsigned judged, unsigned number)
+{
+    if (judged != BELTUQASH_DONE)
+        demand(number == judged, "another number than load's");
+    else
+        demand(number == BELTUQASH_DONE || BELTUQASH_STORE_MISFIT <= number, "a sheet that load takes is refused");
+}
+
+/* One round: something of a call is damaged, and all three calls are made. */
+static void throw_damaged(void)
+{
+    static struct bytes sheet, store, request, final_store;
+    const struct base *base = &bases[below((uint32_t)base_count)];
+    sheet = base->sheet;
+    uint32_t mode = below(16) == 0 ? below(256) : below(2);
+    uint32_t fuel = below(16) == 0 ? MOST_FUEL + below(3) : below(12);
+    uint32_t reader = below(8) == 0 ? below(300) : below(base->levels);
+    make_store(&store, base, mode == BELTUQASH_PERMISSIVE || below(8) == 0);
+    make_request(&request, base);
+    if (below(2))
+        damage(&sheet);
+    if (below(3) == 0)
+        damage(&store);
+    if (below(3) == 0)
+        damage(&request);
+    size_t out_len = below(4) == 0 ? below(2 + 5 * MOST_FIELDS) : 2 + 5 * MOST_FIELDS + below(64);
+
+    unsigned judged = load(&sheet);
+    unsigned number = run(&sheet, &store, mode, fuel, out_len, &final_store);
+    if (mode > 1 || fuel > MOST_FUEL)
+        demand(number == BELTUQASH_MODE_OR_FUEL, "a wrong mode or fuel is taken");
+    else
+        demand_sheets_number(judged, number);
+    demand_sheets_number(judged, hand_out(&sheet, &store, reader, &request, out_len));
+    if (number == BELTUQASH_DONE)
+        demand_sheets_number(judged, hand_out(&sheet, &final_store, reader, &request, out_len));
+}
+
+/* Every cut and some growths of right input, and every short output, with the number that each must get. */
+static void throw_every_cut(const struct base *base)
+{
+    static struct bytes sheet, store, request, final_store;
+    sheet = base->sheet;
+    make_store(&store, base, 0);
+    request = (struct bytes){2 + 2 * base->fields, {(uint8_t)base->fields, 0}};
+    for (unsigned i = 0; i < base->fields; i++)
+        request.at[2 + 2 * i] = (uint8_t)i;
+    size_t whole = store.length, asked = request.length;
+
+    for (sheet.length = 0; sheet.length < base->sheet.length + 9; sheet.length++) {
+        unsigned right = sheet.length == base->sheet.length ? base->number : BELTUQASH_SHEET_LENGTH;
+        demand(load(&sheet) == right, "a cut or grown sheet");
+        demand_sheets_number(right, run(&sheet, &store, BELTUQASH_STRICT, 100, whole, &final_store));
+        demand_sheets_number(right, hand_out(&sheet, &store, 0, &request, whole));
+    }
+    if (base->number != BELTUQASH_DONE)
+        return;
+    sheet.length = base->sheet.length;
+    for (store.length = 0; store.length < whole + 9; store.length++)
+        if (store.length != whole) {
+            demand(run(&sheet, &store, BELTUQASH_STRICT, 100, whole, &final_store) == BELTUQASH_STORE_MISFIT, "a cut or grown store");
+            demand(hand_out(&sheet, &store, 0, &request, whole) == BELTUQASH_STORE_MISFIT, "a cut or grown store");
+        }
+    store.length = whole;
+    for (request.length = 0; request.length < asked + 9; request.length++)
+        demand(hand_out(&sheet, &store, 0, &request, whole) == (request.length == asked ? BELTUQASH_DONE : BELTUQASH_READER_OR_REQUEST),
+               "a cut or grown request");
+    request.length = asked;
+    for (size_t length = 0; length < whole; length++) {
+        demand(run(&sheet, &store, BELTUQASH_STRICT, 100, length, &final_store) == BELTUQASH_OUT_SHORT, "a short output");
+        demand(hand_out(&sheet, &store, 0, &request, length) == BELTUQASH_OUT_SHORT, "a short answer");
+    }
+}
+
+/* Nothing lent at all. */
+static void throw_null(void)
+{
+    calling = "null with length 0";
+    demand(beltuqash_load(NULL, 0) == BELTUQASH_SHEET_LENGTH, "load");
+    demand(beltuqash_run(NULL, 0, NULL, 0, BELTUQASH_STRICT, 0, NULL, 0) == BELTUQASH_SHEET_LENGTH, "run");
+    demand(beltuqash_hand_out(NULL, 0, NULL, 0, 0, NULL, 0, NULL, 0) == BELTUQASH_SHEET_LENGTH, "hand-out");
+}
+
+/* The test has reached what it is for: every number of every call came. */
+static void demand_all_seen(void)
+{
+    for (int call = LOAD; call < CALLS; call++) {
+        unsigned long made = 0;
+        calling = call_names[call];
+        for (unsigned number = 0; number < NUMBERS; number++) {
+            made += seen[call][number];
+            if (call_numbers[call][number] == 'y' && seen[call][number] == 0) {
+                fprintf(stderr, "%s: number %u never came\n", calling, number);
+                exit(EXIT_FAILURE);
+            }
+        }
+        printf("%s: %lu calls, every number came, nothing was written that should stay\n", calling, made);
+    }
+}
+
+static void check_reasons(void)
+{
+    calling = "reason";
+    for (unsigned number = 0; number < NUMBERS; number++)
+        for (unsigned other = 0; other < number; other++)
+            demand(strcmp(beltuqash_reason(number), beltuqash_reason(other)) != 0, "two numbers have one reason");
+    demand(strcmp(beltuqash_reason(NUMBERS), "no such number") == 0, "19");
+    demand(strcmp(beltuqash_reason(NUMBERS - 1), "no such number") != 0, "18");
+    demand(strcmp(beltuqash_reason(0u - 1), "no such number") == 0, "the greatest number");
+}
+
+int main(int argc, char **argv)
+{
+    unsigned long rounds = 40000;
+    int first = 1;
+    if (argc > 2 && strcmp(argv[1], "-n") == 0) {
+        rounds = strtoul(argv[2], NULL, 10);
+        first = 3;
+    }
+    sheet_room = fence();
+    store_room = fence();
+    request_room = fence();
+    output_room = fence();
+    for (int i = first; i < argc; i++)
+        add_file(argv[i]);
+    add_quotient();
+    add_nest(64, BELTUQASH_DONE);
+    add_nest(65, BELTUQASH_TOO_DEEP);
+    check_reasons();
+    throw_null();
+    for (size_t i = 0; i < base_count; i++)
+        throw_every_cut(&bases[i]);
+    for (unsigned long i = 0; i < rounds; i++)
+        throw_damaged();
+    demand_all_seen();
+    return EXIT_SUCCESS;
+}
