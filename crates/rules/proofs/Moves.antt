@@ -117,7 +117,7 @@ module _ {Mark Seen Context : Type 0} {𝓜 : Marking Mark Seen Context} (𝓢 :
   rounds-ran place a body b zero σ fuel context inside = ran-spent
   rounds-ran place a body b (suc bound) σ fuel context inside =
       tested-ran place a context σ fuel inside
-      (λ left c in-c. bind-ran (b σ left c in-c) (λ τ left. rounds-ran place a body b bound τ left c in-c))
+      (λ left c in-c. bind-ran (b σ left _ search) (λ τ left. rounds-ran place a body b bound τ left c in-c))
       (λ left c in-c. unmoved)
 
   pub exec-ran : (c : Cmd) (σ : Store Mark) (fuel : ℕ) → Keeps σ (λ context. exec 𝓜 c context σ fuel)

@@ -178,8 +178,9 @@ module _ {Mark Seen Context : Type 0} (𝓜 : Marking Mark Seen Context) (𝓢 :
   module _ (place : ℕ) (a : Exp) (body : Context → Store Mark → ℕ → End Mark)
       (keeps : (σ : Store Mark) (fuel : ℕ) → Keeps (𝓢 .moving) σ (λ c. body c σ fuel))
       (ends : (context : Context) (f g : ℕ) (σ τ : Store Mark) → AlikeStores σ τ → Both (body context σ f) (body context τ g)) where
-    again : (bound : ℕ) (σ : Store Mark) (fuel : ℕ) → Keeps (𝓢 .moving) σ (λ c. bind (body c σ fuel) (rounds 𝓜 place a body bound c))
-    again bound σ fuel c inside = bind-ran (𝓢 .moving) (keeps σ fuel c inside) (λ τ left. rounds-ran (𝓢 .moving) place a body keeps bound τ left c inside)
+    again : (bound : ℕ) (c : Context) → 𝓢 .moving .Inside c → {σ : Store Mark} {x : End Mark}
+        → Ran (𝓢 .moving) σ x → Ran (𝓢 .moving) σ (bind x (rounds 𝓜 place a body bound c))
+    again bound c inside h = bind-ran (𝓢 .moving) h (λ τ left. rounds-ran (𝓢 .moving) place a body keeps bound τ left c inside)
 
     rounds-both : (m n : ℕ) (context : Context) (f g : ℕ) (σ τ : Store Mark) → AlikeStores σ τ
         → Both (rounds 𝓜 place a body m context σ f) (rounds 𝓜 place a body n context τ g)
@@ -189,9 +190,9 @@ module _ {Mark Seen Context : Type 0} (𝓜 : Marking Mark Seen Context) (𝓢 :
     rounds-both (suc m) (suc n) context f g σ τ h =
         tested-both place a context f g σ τ h
         (λ f g. record {
-          known = λ c. bind-ends (ends c f g σ τ h) (λ σ τ f g k. rounds-both m n c f g σ τ k);
-          first = again m σ f;
-          second = again n τ g;
+          known = λ c. bind-ends (ends _ f g σ τ h) (λ σ τ f g k. rounds-both m n c f g σ τ k);
+          first = λ c inside. again m c inside (keeps σ f _ search);
+          second = λ c inside. again n c inside (keeps τ g _ search);
         })
         (λ f g. record { known = λ c. dones h; first = λ c inside. unmoved (𝓢 .moving); second = λ c inside. unmoved (𝓢 .moving) })
 

@@ -148,7 +148,7 @@ module _ (𝓛 : Lattice) (𝓘 : Laws 𝓛) where
   rounds-leads mode place e c body b zero pc σ fuel = no-fuel
   rounds-leads mode place e c body b (suc bound) pc σ fuel =
       tested-leads mode place e pc σ fuel
-      (λ left k t. bind-leads (b k σ left) (λ τ left s. again t s (rounds-leads mode place e c body b bound k τ left)))
+      (λ left k t. bind-leads (b _ σ left) (λ τ left s. again t s (rounds-leads mode place e c body b bound k τ left)))
       (λ left k t. leads (over t))
     where
       again : {k : ℕ} {τ : Store Mark} {x : End Mark} → After pc σ e true k → Executes 𝓛 mode c k σ τ → Leads (Executes 𝓛 mode (while place e c) k τ) x

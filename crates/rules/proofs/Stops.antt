@@ -168,7 +168,7 @@ module _ {Mark Seen Context : Type 0} (𝓜 : Marking Mark Seen Context) {n : �
     unfolding rounds
     rounds-upto ends zero context σ fuel = upto-spent p
     rounds-upto ends (suc bound) context σ fuel =
-        tested-upto context σ fuel (λ c left. bind-upto (ends c σ left) (rounds-upto ends bound c)) (λ c left. upto-done)
+        tested-upto context σ fuel (λ c left. bind-upto (ends _ σ left) (rounds-upto ends bound c)) (λ c left. upto-done)
 
   -- a run stops at a place of its command
   pub exec-upto : {c : Cmd} → CmdUpTo n c → (context : Context) (σ : Store Mark) (fuel : ℕ) → EndUpTo n (exec 𝓜 c context σ fuel)

@@ -87,7 +87,7 @@ module _ {Mark Seen Context : Type 0} (𝓜 : Marking Mark Seen Context) where
     unfolding rounds
     rounds-left zero context σ fuel = left-spent
     rounds-left (suc n) context σ fuel =
-        tested-left place a context σ fuel (λ c left. bind-left (body-left c σ left) (rounds-left n c)) (λ c left. left-done (le-refl left))
+        tested-left place a context σ fuel (λ c left. bind-left (body-left _ σ left) (rounds-left n c)) (λ c left. left-done (le-refl left))
 
     rounds-none : (n : ℕ) (context : Context) (σ : Store Mark) (fuel : ℕ) → fuel ≡ zero → rounds 𝓜 place a body n context σ fuel ≡ spent place
     unfolding rounds tested spend
@@ -102,7 +102,7 @@ module _ {Mark Seen Context : Type 0} (𝓜 : Marking Mark Seen Context) where
     rounds-bound (suc n) zero context σ fuel i j = rounds-none (suc n) context σ fuel (omega arith)
     rounds-bound (suc n) (suc m) context σ zero i j = refl
     rounds-bound (suc n) (suc m) context σ (suc fuel) i j =
-        onward-same place a context σ fuel (λ c. bind-same (body-left c σ fuel) (λ τ left k. rounds-bound n m c τ left (omega arith) (omega arith)))
+        onward-same place a context σ fuel (λ c. bind-same (body-left _ σ fuel) (λ τ left k. rounds-bound n m c τ left (omega arith) (omega arith)))
 
   -- ── fuel ──────────────────────────────────────────────────────────────────────────────────
 

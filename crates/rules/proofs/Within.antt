@@ -132,7 +132,7 @@ module _ {Mark Seen Context : Type 0} {𝓜 𝓝 : Marking Mark Seen Context} (�
   rounds-follows place a b b′ h zero n e context σ f g d = spent-free
   rounds-follows place a b b′ h (suc m) zero e context σ f g d = absurd (omega arith)
   rounds-follows place a b b′ h (suc m) (suc n) e context σ f g d =
-      tested-follows place a context σ (λ c f g d. bind-follows (h c σ f g d) (rounds-follows place a b b′ h m n (omega arith) c)) (λ c f g d. done-too d) f g d
+      tested-follows place a context σ (λ c f g d. bind-follows (h _ σ f g d) (rounds-follows place a b b′ h m n (omega arith) c)) (λ c f g d. done-too d) f g d
 
   exec-follows : (c : Cmd) (context : Context) (σ : Store Mark) → FollowsOn (exec 𝓜 c context σ) (exec 𝓝 c context σ)
   unfolding exec
@@ -197,7 +197,7 @@ module _ (𝓛 : Lattice) where
     read-same = λ i m. refl;
     join-same = λ m n. refl;
     enter-on = λ context m. goes-on (marking 𝓛 strict .enter context m);
-    store-on = λ place context old m. stored-on (𝓛 .le context (levelOf old)) context (levelOf old) m;
+    store-on = λ place context old m. stored-on (𝓛 .le context (levelOf old)) context (levelOf old) _;
   }
 
   pub strict-permissive : (c : Cmd) (context : ℕ) (σ τ : Store Mark) (fuel left : ℕ)
