@@ -1,16 +1,15 @@
 -- A node is one deeper than the deepest of its children.
-use Prim.Native.Nat.{ℕ, zero, suc, max, _+_, _≤_, _<_}
+use Prim.Native.Nat.{ℕ, zero, suc, max, _-_, _≤_, _<_}
 use native.Mathlib.Omega.{arith}
-use mathlib.Core.Path.{_≡_, refl, ap, _∙_}
-use mathlib.Core.Bool.{true, false, cond, false≢true}
+use mathlib.Core.Path.{_≡_, refl, sym, ap, _∙_}
+use mathlib.Core.Bool.{true, false, false≢true}
 use mathlib.Core.List.{List}
 use borrow.Author.Tests.{le-leb, lt-leb, leb-true, leb-false}
 use lib.Dec.{leb}
-use Rattle.basis.specs.Tests.{all}
-use Rattle.basis.proofs.Tests.{all-at}
+use Rattle.basis.proofs.Tests.{split}
 use Rattle.sheet.specs.Nodes.{In, kindAt, placeAt, kinds, heldIn, isChild, Holds, WellFormed}
 use Rattle.sheet.specs.Trees.{expAt, cmdAt}
-use Rattle.sheet.specs.Depth.{expDepth, cmdDepth, depthAt, NodeIn}
+use Rattle.sheet.specs.Depth.{expDepth, cmdDepth, depthAt, depthIn, NodeIn}
 use Rattle.sheet.specs.declared.nodes.Held.{Held}
 use Rattle.sheet.specs.declared.nodes.Held.the-variants.{Nothing, Constant, Field, Expression, Command}
 use Rattle.sheet.proofs.Trees.{held-there, expAt-constant, expAt-field, expAt-operator, expAt-not, expAt-seal, cmdAt-skip, cmdAt-assign, cmdAt-sequence, cmdAt-if, cmdAt-while}
@@ -51,70 +50,72 @@ module _ (values s : List ℕ) where
   unfolding depthAt
   cmd-depth n h = simp (lt-leb (kindAt s n) 4 h)
 
-  -- the depth of the tree in place k of node n of a kind, 0 where it holds no child
-  unfoldable pub depthIn : ℕ → ℕ → ℕ → ℕ
-  depthIn n kind k = cond (isChild (heldIn kind k)) (depthAt values s (placeAt s n k)) 0
-
-  abbrev deepest : ℕ → ℕ → ℕ
-  deepest n kind = max (depthIn n kind 0) (max (depthIn n kind 1) (depthIn n kind 2))
-
-  pub no-child : (n kind k : ℕ) → isChild (heldIn kind k) ≡ false → depthIn n kind k ≡ 0
+  pub no-child : (n k : ℕ) → isChild (heldIn (kindAt s n) k) ≡ false → depthIn values s n k ≡ 0
   unfolding depthIn
-  no-child n kind k e = rw e
+  no-child n k e = rw e
 
-  pub a-child : (n kind k : ℕ) → isChild (heldIn kind k) ≡ true → depthIn n kind k ≡ depthAt values s (placeAt s n k)
+  pub a-child : (n k : ℕ) → isChild (heldIn (kindAt s n) k) ≡ true → depthIn values s n k ≡ depthAt values s (placeAt s n k)
   unfolding depthIn
-  a-child n kind k e = rw e
+  a-child n k e = rw e
 
   module _ {fields constants : ℕ} (nodes : WellFormed s fields constants) (n : ℕ) (i : In s n) where
-    -- the depths of children, an expression's and a command's
-    exp-in : (kind k : ℕ) → kindAt s n ≡ kind → k < 3 → heldIn kind k ≡ Expression → depthIn n kind k ≡ expDepth (expAt values s (placeAt s n k))
-    exp-in kind k e h held = a-child n kind k (ap isChild held) ∙ exp-depth _ ((rw held at (held-there nodes n i kind k e h)) .sort)
+    -- the depth in place k of a node of a kind, which holds no child, an expression or a command
+    none-in : (kind k : ℕ) → kindAt s n ≡ kind → isChild (heldIn kind k) ≡ false → depthIn values s n k ≡ 0
+    none-in kind k e h = no-child n k (rw e h)
 
-    cmd-in : (kind k : ℕ) → kindAt s n ≡ kind → k < 3 → heldIn kind k ≡ Command → depthIn n kind k ≡ cmdDepth (cmdAt values s (placeAt s n k))
-    cmd-in kind k e h held = a-child n kind k (ap isChild held) ∙ cmd-depth _ ((rw held at (held-there nodes n i kind k e h)) .least)
+    exp-in : (kind k : ℕ) → kindAt s n ≡ kind → k < 3 → heldIn kind k ≡ Expression → depthIn values s n k ≡ expDepth (expAt values s (placeAt s n k))
+    exp-in kind k e h held = a-child n k (rw e (ap isChild held)) ∙ exp-depth _ ((rw held at (held-there nodes n i kind k e h)) .sort)
 
-    by-kind : (kind : ℕ) → Kind kind → kindAt s n ≡ kind → depthAt values s n ≡ suc (deepest n kind)
+    cmd-in : (kind k : ℕ) → kindAt s n ≡ kind → k < 3 → heldIn kind k ≡ Command → depthIn values s n k ≡ cmdDepth (cmdAt values s (placeAt s n k))
+    cmd-in kind k e h held = a-child n k (rw e (ap isChild held)) ∙ cmd-depth _ ((rw held at (held-there nodes n i kind k e h)) .least)
+
+    abbrev deepest : ℕ
+    deepest = max (depthIn values s n 0) (max (depthIn values s n 1) (depthIn values s n 2))
+
+    by-kind : (kind : ℕ) → Kind kind → kindAt s n ≡ kind → depthAt values s n ≡ suc deepest
     unfolding heldIn kinds expDepth cmdDepth
-    by-kind kind is-constant h = omega (arith, exp-depth n (omega arith), ap expDepth (expAt-constant values nodes n i h), no-child n 0 0 refl, no-child n 0 1 refl, no-child n 0 2 refl)
-    by-kind kind is-field h = omega (arith, exp-depth n (omega arith), ap expDepth (expAt-field values nodes n i h), no-child n 1 0 refl, no-child n 1 1 refl, no-child n 1 2 refl)
+    by-kind kind is-constant h = omega (arith, exp-depth n (omega arith), ap expDepth (expAt-constant values nodes n i h), none-in 0 0 h refl, none-in 0 1 h refl, none-in 0 2 h refl)
+    by-kind kind is-field h = omega (arith, exp-depth n (omega arith), ap expDepth (expAt-field values nodes n i h), none-in 1 0 h refl, none-in 1 1 h refl, none-in 1 2 h refl)
     by-kind kind is-operator h =
-        omega (arith, exp-depth n (omega arith), ap expDepth (expAt-operator values nodes n i h), exp-in 2 0 h (omega arith) refl, exp-in 2 1 h (omega arith) refl, no-child n 2 2 refl)
-    by-kind kind is-not h = omega (arith, exp-depth n (omega arith), ap expDepth (expAt-not values nodes n i h), exp-in 3 0 h (omega arith) refl, no-child n 3 1 refl, no-child n 3 2 refl)
-    by-kind kind is-seal h = omega (arith, exp-depth n (omega arith), ap expDepth (expAt-seal values nodes n i h), exp-in 4 0 h (omega arith) refl, no-child n 4 1 refl, no-child n 4 2 refl)
-    by-kind kind is-skip h = omega (arith, cmd-depth n (omega arith), ap cmdDepth (cmdAt-skip values nodes n i h), no-child n 5 0 refl, no-child n 5 1 refl, no-child n 5 2 refl)
-    by-kind kind is-assign h = omega (arith, cmd-depth n (omega arith), ap cmdDepth (cmdAt-assign values nodes n i h), no-child n 6 0 refl, exp-in 6 1 h (omega arith) refl, no-child n 6 2 refl)
+        omega (arith, exp-depth n (omega arith), ap expDepth (expAt-operator values nodes n i h), exp-in 2 0 h (omega arith) refl, exp-in 2 1 h (omega arith) refl, none-in 2 2 h refl)
+    by-kind kind is-not h = omega (arith, exp-depth n (omega arith), ap expDepth (expAt-not values nodes n i h), exp-in 3 0 h (omega arith) refl, none-in 3 1 h refl, none-in 3 2 h refl)
+    by-kind kind is-seal h = omega (arith, exp-depth n (omega arith), ap expDepth (expAt-seal values nodes n i h), exp-in 4 0 h (omega arith) refl, none-in 4 1 h refl, none-in 4 2 h refl)
+    by-kind kind is-skip h = omega (arith, cmd-depth n (omega arith), ap cmdDepth (cmdAt-skip values nodes n i h), none-in 5 0 h refl, none-in 5 1 h refl, none-in 5 2 h refl)
+    by-kind kind is-assign h = omega (arith, cmd-depth n (omega arith), ap cmdDepth (cmdAt-assign values nodes n i h), none-in 6 0 h refl, exp-in 6 1 h (omega arith) refl, none-in 6 2 h refl)
     by-kind kind is-sequence h =
-        omega (arith, cmd-depth n (omega arith), ap cmdDepth (cmdAt-sequence values nodes n i h), cmd-in 7 0 h (omega arith) refl, cmd-in 7 1 h (omega arith) refl, no-child n 7 2 refl)
+        omega (arith, cmd-depth n (omega arith), ap cmdDepth (cmdAt-sequence values nodes n i h), cmd-in 7 0 h (omega arith) refl, cmd-in 7 1 h (omega arith) refl, none-in 7 2 h refl)
     by-kind kind is-if h =
         omega (arith, cmd-depth n (omega arith), ap cmdDepth (cmdAt-if values nodes n i h), exp-in 8 0 h (omega arith) refl, cmd-in 8 1 h (omega arith) refl, cmd-in 8 2 h (omega arith) refl)
     by-kind kind is-while h =
-        omega (arith, cmd-depth n (omega arith), ap cmdDepth (cmdAt-while values nodes n i h), exp-in 9 0 h (omega arith) refl, cmd-in 9 1 h (omega arith) refl, no-child n 9 2 refl)
+        omega (arith, cmd-depth n (omega arith), ap cmdDepth (cmdAt-while values nodes n i h), exp-in 9 0 h (omega arith) refl, cmd-in 9 1 h (omega arith) refl, none-in 9 2 h refl)
 
-    one-deeper : depthAt values s n ≡ suc (deepest n (kindAt s n))
+    one-deeper : depthAt values s n ≡ suc deepest
     one-deeper = by-kind (kindAt s n) (kind-is _ (nodes .kind n i)) refl
-
-    child-lower : (k : ℕ) → k < 3 → depthIn n (kindAt s n) k < depthAt values s n
-    child-lower zero h = omega (arith, one-deeper)
-    child-lower (suc zero) h = omega (arith, one-deeper)
-    child-lower (suc (suc zero)) h = omega (arith, one-deeper)
-    child-lower (suc (suc (suc k))) h = absurd (omega arith)
-
-    -- with so many nodes below it: a child that goes too deep, and children that all fit
-    module _ (below : ℕ) where
-      pub too-deep : (k : ℕ) → k < 3 → leb (depthIn n (kindAt s n) k) below ≡ false → leb (depthAt values s n) (below + 1) ≡ false
-      too-deep k h e =
-          let over : below < depthIn n (kindAt s n) k = leb-false _ _ e in
-          lt-leb (depthAt values s n) (below + 1) (omega (arith, child-lower k h))
-
-      pub all-fit : all 3 (λ k. leb (depthIn n (kindAt s n) k) below) ≡ true → leb (depthAt values s n) (below + 1) ≡ true
-      all-fit e =
-          let fits : (k : ℕ) → k < 3 → depthIn n (kindAt s n) k ≤ below = λ k h. leb-true _ _ (all-at 3 (λ k. leb (depthIn n (kindAt s n) k) below) e k h) in
-          le-leb (depthAt values s n) (below + 1) (omega (arith, one-deeper, fits 0 (omega arith), fits 1 (omega arith), fits 2 (omega arith)))
 
     -- a tree is at least 1 deep
     pub some-depth : leb (depthAt values s n) 0 ≡ false
     some-depth = lt-leb (depthAt values s n) 0 (omega (arith, one-deeper))
+
+    -- a tree fits where each child's fits with one less
+    module _ (most : ℕ) (some : 0 < most) where
+      pub too-deep : (k : ℕ) → k < 3 → leb (depthIn values s n k) (most - 1) ≡ false → leb (depthAt values s n) most ≡ false
+      too-deep k h e = go k h (leb-false _ _ e)
+        where
+          go : (k : ℕ) → k < 3 → most - 1 < depthIn values s n k → leb (depthAt values s n) most ≡ false
+          go zero h over = lt-leb (depthAt values s n) most (omega (arith, one-deeper))
+          go (suc zero) h over = lt-leb (depthAt values s n) most (omega (arith, one-deeper))
+          go (suc (suc zero)) h over = lt-leb (depthAt values s n) most (omega (arith, one-deeper))
+          go (suc (suc (suc k))) h over = absurd (omega arith)
+
+      -- where those in two places do, the third decides
+      pub one-decides : leb (depthIn values s n 0) (most - 1) ≡ true → leb (depthIn values s n 2) (most - 1) ≡ true
+          → leb (depthIn values s n 1) (most - 1) ≡ leb (depthAt values s n) most
+      one-decides first third =
+          let a : depthIn values s n 0 ≤ most - 1 = leb-true _ _ first in
+          let c : depthIn values s n 2 ≤ most - 1 = leb-true _ _ third in
+          split (leb (depthIn values s n 1) (most - 1))
+          (λ e. let b : depthIn values s n 1 ≤ most - 1 = leb-true _ _ e in e ∙ sym (le-leb (depthAt values s n) most (omega (arith, one-deeper))))
+          (λ e. e ∙ sym (too-deep 1 (omega arith) e))
 
 -- a child is a node with a lower number
 pub child-node : {s : List ℕ} {n : ℕ} → NodeIn s n → (k : ℕ) → k < 3 → isChild (heldIn (kindAt s n) k) ≡ true → (placeAt s n k < n) × NodeIn s (placeAt s n k)

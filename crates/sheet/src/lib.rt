@@ -40,7 +40,7 @@ pub fn load(sheet: &[u8]) -> Verdict
     if kind_of(nodes, last) <= 4 {
         return Verdict::Uses;
     }
-    if depth::fits(&nodes, last, 63) {
+    if depth::fits(&nodes, last, 64) {
         Verdict::Passes
     } else {
         Verdict::Depth
