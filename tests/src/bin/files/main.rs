@@ -4,6 +4,8 @@
 //! its folder `runner`. The gate compares them with what is stored and printed.
 
 mod parts;
+#[cfg(test)]
+mod proved;
 mod runner;
 mod samples;
 mod trials;
