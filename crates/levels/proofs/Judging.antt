@@ -2,11 +2,12 @@
 -- level j exactly if row j lies within row i, so the order is that of sets.
 use Prim.Native.Nat.{ℕ, _-_, _^_, _<_, _≤_}
 use native.Mathlib.Omega.{arith}
+use native.Mathlib.Decide.{decLe}
 use mathlib.Core.Path.{_≡_, refl, sym, _∙_}
-use mathlib.Core.Bool.{Bool, true, false, Bool·beq, true≢false}
+use mathlib.Core.Bool.{Bool, true, false, Bool·beq, true≢false, or-true}
 use mathlib.Core.List.{List}
-use borrow.Author.Tests.{eqb-true, eq-eqb}
-use lib.Dec.{eqb}
+use borrow.Author.Tests.{eqb-true, eq-eqb, le-ltb}
+use lib.Dec.{eqb, ltb}
 use lib.Bits.{and-self, and-comm, and-le-l}
 use lib.Pow.{ones-lt}
 use Rattle.basis.proofs.Tests.{both, and-of, split, all-at, all-of, iff}
@@ -47,7 +48,7 @@ module _ (s : List ℕ) where
     pair-right i j a b =
         and-of (and-of (beq-of _ _ (inside i j a b))
         (split (eqb (rowAt s i) (rowAt s j)) (λ e. rw e (eq-eqb i j (row-one s h i j a b (eqb-true _ _ e)))) (λ e. rw e)))
-        (is-row s _ _ (join-is s h i j a b .level) (join-row s h i j a b))
+        (rw (is-row s _ _ (join-is s h i j a b .level) (join-row s h i j a b)) (or-true (ltb j i)))
 
     pub level-right : (i : ℕ) → i < count s → levelRight s i ≡ true
     unfolding levelRight
@@ -58,14 +59,14 @@ module _ (s : List ℕ) where
   record Pair (i j : ℕ) : Type 0 where
     inside : below s i j ≡ eqb (aboveBoth s i j) (rowAt s j)
     one : rowAt s i ≡ rowAt s j → i ≡ j
-    join : isRow s (aboveBoth s i j) ≡ true
+    join : i ≤ j → isRow s (aboveBoth s i j) ≡ true
 
   pair-is : (i j : ℕ) → pairRight s i j ≡ true → Pair i j
   unfolding pairRight
   pair-is i j h =
       let (ordered, join) = both _ _ h in
       let (inside, one) = both _ _ ordered in
-      record { inside = beq-true _ _ inside; one = λ e. eqb-true i j (rw (eq-eqb _ _ e) at one); join = join }
+      record { inside = beq-true _ _ inside; one = λ e. eqb-true i j (rw (eq-eqb _ _ e) at one); join = λ l. rw (le-ltb j i l) at join }
 
   module _ (pair : (i j : ℕ) → i < count s → j < count s → Pair i j) where
     itself : (i : ℕ) → i < count s → below s i i ≡ true
@@ -80,6 +81,14 @@ module _ (s : List ℕ) where
         let (left, right) = above-each s i j k (same-bits (sym e) k ∙ itself k d) in
         record { level = d; left = left; right = right; least = λ l m p q. same-bits e l ∙ above-both s i j l ∙ and-of p q }
 
+    -- a pair has its join in either order
+    join : (i j : ℕ) → i < count s → j < count s → isRow s (aboveBoth s i j) ≡ true
+    join i j a b = go (decLe i j)
+      where
+        go : Dec (i ≤ j) → isRow s (aboveBoth s i j) ≡ true
+        go (yes l) = pair i j a b .join l
+        go (no l) = rw (and-comm (rowAt s i) (rowAt s j)) (pair j i b a .join (omega (arith, l)))
+
     order : 0 < count s → Order (count s) (below s)
     unfolding below
     order some-level = record {
@@ -87,7 +96,7 @@ module _ (s : List ℕ) where
       itself = itself;
       one = λ i j a b p q. pair i j a b .one (sym (within j i b a q) ∙ and-comm (rowAt s j) (rowAt s i) ∙ within i j a b p);
       through = λ i j k a b d p q. above-each s i j k (same-bits (within i j a b p) k ∙ q) .0;
-      joins = λ i j a b. let (k, d, e) = row-at s _ (pair i j a b .join) in has-join (count s) (below s) i j k (joined i j k d e);
+      joins = λ i j a b. let (k, d, e) = row-at s _ (join i j a b) in has-join (count s) (below s) i j k (joined i j k d e);
     }
 
   -- if every level makes right pairs, the rows are right exactly if some row has every level

@@ -23,9 +23,11 @@ module _ (s : List ℕ) where
     pub found : ltb r (count s) ≡ isRow row
     pub is : r < count s → rowAt s r ≡ row
 
-  -- i lies at or below j exactly if row j lies within row i; levels with one row are one; some level's row is the intersection of both
+  -- i lies at or below j exactly if row j lies within row i; levels with one row are one; some level's row is the intersection of both, asked
+  -- only where j is not the lower number
   unfoldable pub pairRight : ℕ → ℕ → Bool
-  pairRight i j = Bool·beq (below s i j) (eqb (aboveBoth i j) (rowAt s j)) && (not (eqb (rowAt s i) (rowAt s j)) || eqb i j) && isRow (aboveBoth i j)
+  pairRight i j =
+      Bool·beq (below s i j) (eqb (aboveBoth i j) (rowAt s j)) && (not (eqb (rowAt s i) (rowAt s j)) || eqb i j) && (ltb j i || isRow (aboveBoth i j))
 
   -- level i makes a right pair with each level
   unfoldable pub levelRight : ℕ → Bool

@@ -45,17 +45,19 @@ fn level_right(rows: &[u8], i: usize) -> bool
     true
 }
 
-// Whether i lies at or below j exactly if row j lies within row i, no two levels have one row, and some level's row is the intersection of both.
+// Whether i lies at or below j exactly if row j lies within row i, no two levels have one row, and some level's row is the intersection of both:
+// asked of a pair in one order, since it is the same in the other.
 fn pair_right(rows: &[u8], i: usize, j: usize) -> bool
     requires { ⌜ (i < count (now rows)) × (j < count (now rows)) × (count (now rows) ≤ 16) ⌝ }
     ensures { λ r. ⌜ r ≡ pairRight (now (rows .entry)) i j ⌝ }
 {
-    let n = rows.len() / 2;
     let row_i = row(rows, i);
     let row_j = row(rows, j);
-    (has(row_i, j) == ((row_i & row_j) == row_j))
-        & ((row_i != row_j) | (i == j))
-        & (with_common_row(rows, i, j) < n)
+    let ordered = (has(row_i, j) == ((row_i & row_j) == row_j)) & ((row_i != row_j) | (i == j));
+    if j < i {
+        return ordered;
+    }
+    ordered & (with_common_row(rows, i, j) < rows.len() / 2)
 }
 
 // The level whose row is the intersection of rows i and j, or the count if none has it: without a search if it is one of the two.
