@@ -5,7 +5,7 @@
 VERSION = 0.1.0
 PREFIX = /usr/local
 ARCHIVE = target/staticlib/libbeltuqash.a
-EXAMPLES = target/judge target/flag target/order_desk
+EXAMPLES = target/judge target/flag target/order_desk target/lesson
 CFLAGS = -std=c11 -O2 -Wall -Wextra -Werror
 
 # Where things are installed; the pkg-config file names it in full.

@@ -2,6 +2,7 @@
 //! document 01 alone, a generator of sheets and calls, the comparison of the model
 //! with whoever else answers them, and a search for what a reader may not see.
 
+pub mod by_hand;
 pub mod compare;
 pub mod generate;
 pub mod model;

@@ -6,5 +6,7 @@
 pub mod calls;
 pub mod hand_outs;
 pub mod judges;
+#[cfg(test)]
+mod lessons;
 pub mod runners;
 pub mod shops;

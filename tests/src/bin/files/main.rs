@@ -3,6 +3,7 @@
 //! that it is given; and the runner program's cases, NAME.in and NAME.out, into
 //! its folder `runner`. The gate compares them with what is stored and printed.
 
+mod lessons;
 mod parts;
 #[cfg(test)]
 mod proved;
@@ -17,7 +18,7 @@ use std::{env, fs, io};
 fn main() -> io::Result<()> {
     let directory = PathBuf::from(env::args().nth(1).unwrap_or_else(|| ".".into()));
     fs::write(directory.join("trials"), trials::input())?;
-    for (name, sheet) in samples::all() {
+    for (name, sheet) in samples::all().into_iter().chain(lessons::all()) {
         fs::write(directory.join(name), bytes(&sheet))?;
     }
     let cases = directory.join("runner");

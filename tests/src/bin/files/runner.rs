@@ -4,6 +4,7 @@
 use crate::parts::{name, node, operator, plain, with_nodes, SKIP};
 use crate::samples::{flag, name_twice, runners, sealed_flag};
 use crate::trials::{chain, nested, with_rows};
+use beltuqash_tests::by_hand::{store, DIVIDE, LESS, PLUS, REMAINDER};
 use beltuqash_tests::generate::write::bytes;
 use beltuqash_tests::model::levels::Levels;
 use beltuqash_tests::model::sheet::Sheet;
@@ -455,11 +456,6 @@ fn order() -> Vec<Case> {
     cases
 }
 
-const PLUS: u8 = 0;
-const DIVIDE: u8 = 3;
-const REMAINDER: u8 = 4;
-const LESS: u8 = 6;
-
 /// q := q op c. Nodes: 0 q, 1 c, 2 the operator, 3 the assignment.
 fn by_constant(op: u8, c: i32) -> Sheet {
     let nodes = vec![
@@ -550,16 +546,6 @@ fn file_saying(mode: u8, fuel: u32, sheet: &[u8], store_length: usize, there: &[
 fn length(bytes: usize) -> [u8; 2] {
     let bytes = u16::try_from(bytes).expect("a length of two bytes");
     bytes.to_le_bytes()
-}
-
-/// A store of these marks and values.
-fn store(fields: &[(u8, i32)]) -> Vec<u8> {
-    let mut store = length(fields.len()).to_vec();
-    for (mark, value) in fields {
-        store.push(*mark);
-        store.extend(value.to_le_bytes());
-    }
-    store
 }
 
 #[cfg(test)]

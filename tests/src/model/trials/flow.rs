@@ -5,9 +5,6 @@ use super::trees::*;
 use super::*;
 use crate::model::agree::stores_agree;
 use crate::model::hand_out::request;
-use crate::model::marks::Mark;
-use crate::model::rules::{Rules, DOCUMENT};
-use crate::model::run::run_by;
 use crate::model::store::Store;
 
 /// flag := 0; q := 0; if cost < 500 then flag := 1 else skip; if `last` then
@@ -311,25 +308,6 @@ fn listing_3_does_not_leak() {
     ];
     done(&listing.call(1), 8, &end);
     refused(&listing.call(0), PARTIAL_TEST, listing.last_if(), 7);
-}
-
-#[test]
-fn listing_3_leaks_where_a_is_kept_instead_of_the_meet() {
-    let a_kept = Rules {
-        mark_of_assigned: |levels, mode, assigned| {
-            let mark = (DOCUMENT.mark_of_assigned)(levels, mode, assigned)?;
-            match levels.at_or_below(assigned.context, assigned.field.level) {
-                true => Ok(mark),
-                false => Ok(Mark::partial(assigned.field.level)),
-            }
-        },
-        ..DOCUMENT
-    };
-    let listing = listing_3();
-    let w = 2 + 5..2 + 2 * 5;
-    let shown = |closed| run_by(&a_kept, &listing.call(closed)).written[w.clone()].to_vec();
-    assert_eq!(shown(1), [L1, 1, 0, 0, 0]);
-    assert_eq!(shown(0), [L1, 0, 0, 0, 0]);
 }
 
 /// Two partial fields agree whatever their values. A seal makes them whole TOP,

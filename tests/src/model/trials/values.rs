@@ -20,7 +20,7 @@ const RANGE: Result<i32, (u8, u16)> = Err((OUT_OF_RANGE, 2));
 const ZERO: Result<i32, (u8, u16)> = Err((DIVISOR, 2));
 
 #[track_caller]
-fn gives(op: u16, left: i32, right: i32, result: Result<i32, (u8, u16)>) {
+fn gives(op: u8, left: i32, right: i32, result: Result<i32, (u8, u16)>) {
     let expression = operator(op, constant(left), constant(right));
     assert_eq!(worked_out(expression), result, "{left} {op} {right}");
 }
