@@ -4,7 +4,7 @@ use native.Mathlib.Numerals.{add-one}
 use native.Mathlib.Omega.{arith}
 use native.Mathlib.Decide.{ℕ-discrete}
 use mathlib.Core.Path.{_≡_, refl, sym, ap, _∙_}
-use mathlib.Core.Bool.{Bool, true, false, _&&_, true≢false}
+use mathlib.Core.Bool.{Bool, true, false, _&&_, and-true, true≢false}
 use Rattle.basis.specs.Tests.{_⇒_, all, some, which, first}
 
 pub both : (a b : Bool) → (a && b) ≡ true → (a ≡ true) × (b ≡ true)
@@ -93,10 +93,16 @@ module _ (P : ℕ → Bool) where
   unfolding all
   all-none = refl
 
+  pub all-suc : (i : ℕ) → all (i + 1) P ≡ (all i P && P i)
+  unfolding all
+  all-suc i = rw (add-one i) (split (P i) (λ e. rw (e, all) (sym (and-true _))) (λ e. rw (e, all) (sym (and-false (all i P) false refl))))
+
+  pub all-three : all 3 P ≡ (P 0 && P 1 && P 2)
+  all-three = rw (all-suc 2, all-suc 1, all-suc 0, all-none)
+
   -- what passes below i and at i passes below i + 1
   pub all-more : (i : ℕ) → all i P ≡ true → P i ≡ true → all (i + 1) P ≡ true
-  unfolding all
-  all-more i below here = rw (add-one i) (rw (here, all) below)
+  all-more i below here = all-suc i ∙ and-of below here
 
   -- a loop that passed i of n numbers and is not below n passed all
   pub all-done : (n i : ℕ) → n ≤ i → all i P ≡ true → all n P ≡ true
@@ -112,6 +118,13 @@ all-same n P Q f =
     iff (all n P) (all n Q)
     (λ h. all-of n Q (λ i l. sym (f i l) ∙ all-at n P h i l))
     (λ h. all-of n P (λ i l. f i l ∙ all-at n Q h i l))
+
+-- two tests at once
+pub all-both : (n : ℕ) (P Q : ℕ → Bool) → all n (λ i. P i && Q i) ≡ (all n P && all n Q)
+all-both n P Q =
+    iff (all n (λ i. P i && Q i)) (all n P && all n Q)
+    (λ h. and-of (all-of n P (λ i l. both (P i) (Q i) (all-at n _ h i l) .0)) (all-of n Q (λ i l. both (P i) (Q i) (all-at n _ h i l) .1)))
+    (λ h. let each = both (all n P) (all n Q) h in all-of n _ (λ i l. and-of (all-at n P (each .0) i l) (all-at n Q (each .1) i l)))
 
 -- ── a loop that looks for the first number that passes ──────────────────────────────────────
 

@@ -1,5 +1,5 @@
 -- The array of uses holds what is counted, up to two.
-use Prim.Native.Nat.{ℕ, zero, suc, _+_, _≤_, _<_}
+use Prim.Native.Nat.{ℕ, zero, suc, _+_, _-_, _≤_, _<_}
 use native.Mathlib.Omega.{arith}
 use native.Mathlib.Nat.{add-zero}
 use native.Mathlib.Numerals.{add-one}
@@ -10,12 +10,14 @@ use borrow.Author.Tests.{eqb-true, eqb-false, ne-eqb}
 use lib.Dec.{eqb}
 use lib.ListN.{length, getD, set, replicate, length-set}
 use lib.Seq.{getD-set-same, getD-set-other}
-use Rattle.sheet.specs.Nodes.{kindAt, placeAt, heldIn, isChild}
-use Rattle.sheet.specs.Uses.{usesIn, usesBelow}
-use Rattle.sheet.specs.Counting.{upToTwo, counted, countedPlaces}
+use Rattle.basis.specs.Tests.{all}
+use Rattle.basis.proofs.Tests.{all-same}
+use Rattle.sheet.specs.Nodes.{nodeCount, kindAt, placeAt, heldIn, isChild}
+use Rattle.sheet.specs.Uses.{usesIn, usesBelow, usedOnce}
+use Rattle.sheet.specs.Counting.{upToTwo, Counts, counted, countedPlaces}
 
 -- a count up to two is 1 exactly where the count is
-pub once-up-to-two : (uses : ℕ) → eqb (upToTwo uses) 1 ≡ eqb uses 1
+once-up-to-two : (uses : ℕ) → eqb (upToTwo uses) 1 ≡ eqb uses 1
 unfolding upToTwo
 once-up-to-two zero = refl
 once-up-to-two (suc zero) = refl
@@ -43,19 +45,7 @@ counts w used c uses inside e = go (eqb w c) refl
     go false q = getD-set-other used w c _ 0 (λ at. eqb-false w c q (sym at)) ∙ e ∙ ap upToTwo (sym (add-zero uses))
 
 module _ (s : List ℕ) (n : ℕ) where
-  -- the children in k places, and in one more
-  pub no-places : (used : List ℕ) → countedPlaces s n 0 used ≡ used
-  unfolding countedPlaces
-  no-places used = refl
-
-  pub one-child : (k : ℕ) (used : List ℕ) → isChild (heldIn (kindAt s n) k) ≡ true → counted (placeAt s n k) (countedPlaces s n k used) ≡ countedPlaces s n (k + 1) used
-  unfolding countedPlaces
-  one-child k used e = rw (add-one k) (rw e)
-
-  pub no-child : (k : ℕ) (used : List ℕ) → isChild (heldIn (kindAt s n) k) ≡ false → countedPlaces s n k used ≡ countedPlaces s n (k + 1) used
-  unfolding countedPlaces
-  no-child k used e = rw (add-one k) (rw e)
-
+  -- the children in k places
   pub places-length : (k : ℕ) (used : List ℕ) → length (countedPlaces s n k used) ≡ length used
   unfolding countedPlaces
   places-length zero used = refl
@@ -65,8 +55,9 @@ module _ (s : List ℕ) (n : ℕ) where
       go true h = counted-length _ _ ∙ h
       go false h = h
 
-  module _ (used : List ℕ) (inside : (k : ℕ) → k < 3 → isChild (heldIn (kindAt s n) k) ≡ true → placeAt s n k < length used) where
-    pub places-count : (k c uses : ℕ) → k ≤ 3 → getD used c 0 ≡ upToTwo uses → getD (countedPlaces s n k used) c 0 ≡ upToTwo (uses + usesIn s n k c)
+  -- node n's children are lower, and the array has room for lower nodes
+  module _ (used : List ℕ) (long : n ≤ length used) (lower : (k : ℕ) → k < 3 → isChild (heldIn (kindAt s n) k) ≡ true → placeAt s n k < n) where
+    places-count : (k c uses : ℕ) → k ≤ 3 → getD used c 0 ≡ upToTwo uses → getD (countedPlaces s n k used) c 0 ≡ upToTwo (uses + usesIn s n k c)
     unfolding countedPlaces usesIn
     places-count zero c uses h e = e ∙ ap upToTwo (sym (add-zero uses))
     places-count (suc k) c uses h e = go (isChild (heldIn (kindAt s n) k)) refl (places-count k c uses (omega arith) e)
@@ -77,18 +68,22 @@ module _ (s : List ℕ) (n : ℕ) where
         go : (b : Bool) → isChild (heldIn (kindAt s n) k) ≡ b → getD (countedPlaces s n k used) c 0 ≡ upToTwo (uses + usesIn s n k c)
             → getD (cond b (counted (placeAt s n k) (countedPlaces s n k used)) (countedPlaces s n k used)) c 0 ≡ upToTwo (uses + (usesIn s n k c + cond (b && eqb (placeAt s n k) c) 1 0))
         go true child ih =
-            counts (placeAt s n k) (countedPlaces s n k used) c (uses + usesIn s n k c) (rw (places-length k used) (inside k (omega arith) child)) ih
+            counts (placeAt s n k) (countedPlaces s n k used) c (uses + usesIn s n k c) (omega (arith, places-length k used, lower k (omega arith) child)) ih
             ∙ ap upToTwo (sum (usesIn s n k c) _)
         go false child ih = ih ∙ ap (λ (m : ℕ). upToTwo (uses + m)) (sym (add-zero (usesIn s n k c)))
 
--- the nodes counted so far, and one more
-pub none-counted : (s : List ℕ) (c : ℕ) → upToTwo (usesBelow s 0 c) ≡ 0
-unfolding upToTwo usesBelow
-none-counted s c = refl
+    pub node-counted : Counts s n used → Counts s (n + 1) (countedPlaces s n 3 used)
+    unfolding usesBelow
+    node-counted e = record { at = λ c. rw (add-one n) (places-count 3 c (usesBelow s n c) (omega arith) (e .at c)) }
 
-pub one-counted : (s : List ℕ) (n c : ℕ) → usesBelow s n c + usesIn s n 3 c ≡ usesBelow s (n + 1) c
-unfolding usesBelow
-one-counted s n c = rw (add-one n)
+-- before the first node, and after the last
+pub none-counted : (s used : List ℕ) → ((c : ℕ) → getD used c 0 ≡ 0) → Counts s 0 used
+unfolding upToTwo usesBelow
+none-counted s used zeros = record { at = zeros }
+
+pub all-counted : {s used : List ℕ} → Counts s (nodeCount s) used → all (nodeCount s - 1) (λ c. eqb (getD used c 0) 1) ≡ usedOnce s
+unfolding usedOnce
+all-counted e = all-same _ _ _ (λ c l. ap (λ (uses : ℕ). eqb uses 1) (e .at c) ∙ once-up-to-two _)
 
 -- an array of zeros
 pub zeros : (n c : ℕ) → _≡_ {A = ℕ} (getD (replicate n 0) c 0) 0

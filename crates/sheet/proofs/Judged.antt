@@ -4,20 +4,20 @@ use native.Mathlib.Omega.{arith}
 use native.Mathlib.Numerals.{add-one}
 use native.Mathlib.Nat.{eq-or-lt-of-le}
 use mathlib.Core.Path.{_≡_, refl, sym, ap, _∙_}
-use mathlib.Core.Bool.{true, false, not, _||_}
+use mathlib.Core.Bool.{Bool, true, false, not, _&&_, _||_, or-true, and-true, and-assoc, false≢true}
 use mathlib.Core.Logic.{⊎-elim}
 use mathlib.Core.List.{List}
 use borrow.Author.Tests.{leb-true, ltb-true, eqb-true, eq-eqb, lt-leb}
-use lib.Dec.{eqb, leb}
-use Rattle.basis.proofs.Tests.{both, all-at}
+use lib.Dec.{eqb, leb, ltb}
+use Rattle.basis.specs.Tests.{all}
+use Rattle.basis.proofs.Tests.{both, split, all-at, all-same, all-both}
 use Rattle.sheet.specs.Verdict.{passesOf, _then_}
-use Rattle.sheet.specs.Nodes.{In, nodeCount, kindAt, opAt, placeAt, heldIn, known, operatorZero, zeroIn, rangeRight, sortRight, placeRight, placesRight, nodeVerdict, verdictBelow, nodesVerdict, Holds, WellFormed}
+use Rattle.sheet.specs.Nodes.{In, nodeCount, kindAt, opAt, placeAt, heldIn, isChild, known, operatorZero, zeroIn, rangeRight, sortRight, placeRight, placesRight, nodeVerdict, verdictBelow, nodesVerdict, Holds, WellFormed}
 use Rattle.sheet.specs.declared.nodes.Held.{Held}
 use Rattle.sheet.specs.declared.nodes.Held.the-variants.{Nothing, Constant, Field, Expression, Command}
-use Rattle.sheet.specs.declared.verdict.Fault.{Fault}
 use Rattle.sheet.specs.declared.verdict.Fault.the-variants.{Unknown, Unused, Range, Sort}
 use Rattle.sheet.specs.declared.verdict.Verdict.the-variants.{Passes, Node}
-use Rattle.sheet.proofs.Verdicts.{then-next, then-first, both-pass, told-right}
+use Rattle.sheet.proofs.Verdicts.{then-next, then-first, both-pass, told-then, told-last}
 
 -- a kind and an operator that are known
 known-is : (kind op : ℕ) → known kind op ≡ true → (kind ≤ 9) × (kind ≡ 2 → op ≤ 9)
@@ -58,6 +58,58 @@ module _ (s : List ℕ) (fields constants : ℕ) where
             unfolding nodeVerdict _then_
             told-none e = simp (kn, op, unused, range, e)
 
+    -- a place is free of every fault
+    abbrev pub free : Held → ℕ → Bool
+    free Nothing w = eqb w 0
+    free Constant w = ltb w constants
+    free Field w = ltb w fields
+    free Expression w = ltb w n && leb (kindAt s w) 4
+    free Command w = ltb w n && ltb 4 (kindAt s w)
+
+    lower-first : (w : ℕ) (sort : Bool) → (ltb w n && sort) ≡ (ltb w n && (leb n w || sort))
+    lower-first w sort = split (ltb w n) (λ e. rw (lt-leb n w (ltb-true w n e))) (λ e. rw e)
+
+    free-is : (h : Held) (w : ℕ) → free h w ≡ (zeroIn h w && (rangeRight fields constants n h w && sortRight s n h w))
+    free-is Nothing w = simp (or-true, and-true)
+    free-is Constant w = simp (or-true, and-true)
+    free-is Field w = simp (or-true, and-true)
+    free-is Expression w = lower-first w _
+    free-is Command w = lower-first w _
+
+    -- a node passes whose kind and operator are right, and whose places are free
+    abbrev placesFree : Bool
+    placesFree = all 3 (λ k. free (heldIn (kindAt s n) k) (placeAt s n k))
+
+    free-of-each : placesFree ≡ (placesRight s fields constants n Unused && (placesRight s fields constants n Range && placesRight s fields constants n Sort))
+    unfolding placesRight placeRight
+    free-of-each =
+        all-same 3 _ _ (λ k l. free-is (heldIn (kindAt s n) k) (placeAt s n k))
+        ∙ all-both 3 _ _
+        ∙ ap (λ (b : Bool). placesRight s fields constants n Unused && b) (all-both 3 _ _)
+
+    pub passes-node : passesOf (nodeVerdict s fields constants n) ≡ (known (kindAt s n) (opAt s n) && operatorZero (kindAt s n) (opAt s n) && placesFree)
+    unfolding nodeVerdict
+    passes-node =
+        rw (told-then _ (Node Unknown n) _ refl, told-then _ (Node Unused n) _ refl, told-then _ (Node Range n) _ refl, told-last _ (Node Sort n) refl, free-of-each)
+        (simp and-assoc)
+
+    pub right : passesOf (nodeVerdict s fields constants n) ≡ true
+        → (known (kindAt s n) (opAt s n) ≡ true) × ((k : ℕ) → k < 3 → free (heldIn (kindAt s n) k) (placeAt s n k) ≡ true)
+    right e =
+        let h = both (known (kindAt s n) (opAt s n) && operatorZero (kindAt s n) (opAt s n)) placesFree (sym passes-node ∙ e) in
+        (both (known (kindAt s n) (opAt s n)) (operatorZero (kindAt s n) (opAt s n)) (h .0) .0, all-at 3 _ (h .1))
+
+    -- its children are lower
+    pub child-lower : passesOf (nodeVerdict s fields constants n) ≡ true → (k : ℕ) → k < 3 → isChild (heldIn (kindAt s n) k) ≡ true → placeAt s n k < n
+    child-lower e k l = go (heldIn (kindAt s n) k) (right e .1 k l)
+      where
+        go : (h : Held) → free h (placeAt s n k) ≡ true → isChild h ≡ true → placeAt s n k < n
+        go Nothing f child = absurd (false≢true child)
+        go Constant f child = absurd (false≢true child)
+        go Field f child = absurd (false≢true child)
+        go Expression f child = ltb-true _ _ (both (ltb (placeAt s n k) n) _ f .0)
+        go Command f child = ltb-true _ _ (both (ltb (placeAt s n k) n) _ f .0)
+
   -- ── the lowest node first ─────────────────────────────────────────────────────────────────
 
   pub none-below : verdictBelow s fields constants 0 ≡ Passes
@@ -80,7 +132,7 @@ module _ (s : List ℕ) (fields constants : ℕ) where
       (λ lower. let told = first-told count n lower below here in then-first _ _ (ap passesOf told ∙ here) ∙ told)
       (eq-or-lt-of-le at-most)
 
-  -- where all pass, each does, and so do fewer
+  -- where all pass, each does
   each-passes : (count : ℕ) → verdictBelow s fields constants count ≡ Passes → (n : ℕ) → n < count → nodeVerdict s fields constants n ≡ Passes
   unfolding verdictBelow
   each-passes zero e n h = absurd (omega arith)
@@ -89,56 +141,27 @@ module _ (s : List ℕ) (fields constants : ℕ) where
       let p = both-pass _ _ e in
       ⊎-elim (λ same. ap (nodeVerdict s fields constants) same ∙ p .1) (λ lower. each-passes count (p .0) n lower) (eq-or-lt-of-le at-most)
 
-  pub all-told : (count n : ℕ) → count ≤ n → verdictBelow s fields constants n ≡ Passes → verdictBelow s fields constants count ≡ Passes
-  unfolding verdictBelow
-  all-told zero n h e = refl
-  all-told (suc count) n h e = then-next _ _ (all-told count n (omega arith) e) ∙ each-passes n e count (omega arith)
-
   -- ── well formed ───────────────────────────────────────────────────────────────────────────
 
-  -- what a node has that passes
-  record Right (n : ℕ) : Type 0 where
-    known-node : known (kindAt s n) (opAt s n) ≡ true
-    free : (fault : Fault) → (k : ℕ) → k < 3 → placeRight s fields constants n fault (heldIn (kindAt s n) k) (placeAt s n k) ≡ true
-
-  right : (n : ℕ) → nodeVerdict s fields constants n ≡ Passes → Right n
-  unfolding nodeVerdict placesRight placeRight
-  right n e₁ =
-      let e₂ = both-pass _ _ e₁ in
-      let e₃ = both-pass _ _ (e₂ .1) in
-      let e₄ = both-pass _ _ (e₃ .1) in
-      record {
-        known-node = told-right _ (Node Unknown n) refl (e₂ .0);
-        free = λ fault. go fault (both (operatorZero (kindAt s n) (opAt s n)) (placesRight s fields constants n Unused) (told-right _ (Node Unused n) refl (e₃ .0)) .1) (told-right _ (Node Range n) refl (e₄ .0)) (told-right _ (Node Sort n) refl (e₄ .1));
-      }
-    where
-      go : (fault : Fault) → placesRight s fields constants n Unused ≡ true → placesRight s fields constants n Range ≡ true → placesRight s fields constants n Sort ≡ true
-          → (k : ℕ) → k < 3 → placeRight s fields constants n fault (heldIn (kindAt s n) k) (placeAt s n k) ≡ true
-      go Unknown u r t k h = refl
-      go Unused u r t k h = all-at 3 _ u k h
-      go Range u r t k h = all-at 3 _ r k h
-      go Sort u r t k h = all-at 3 _ t k h
-
-  -- a place that is free of each fault holds what it should
-  holds : (n : ℕ) → ((w : ℕ) → w < n → kindAt s w ≤ 9) → (h : Held) (w : ℕ)
-      → zeroIn h w ≡ true → rangeRight fields constants n h w ≡ true → sortRight s n h w ≡ true → Holds s fields constants n h w
-  holds n kinds Nothing w z r t = eqb-true w 0 z
-  holds n kinds Constant w z r t = ltb-true w constants r
-  holds n kinds Field w z r t = ltb-true w fields r
-  holds n kinds Expression w z r t =
-      let lower = ltb-true w n r in
-      record { lower = lower; sort = leb-true (kindAt s w) 4 (rw (lt-leb n w lower) at t) }
-  holds n kinds Command w z r t =
-      let lower = ltb-true w n r in
-      record { lower = lower; least = ltb-true 4 (kindAt s w) (rw (lt-leb n w lower) at t); most = kinds w lower }
+  -- a place that is free of every fault holds what it should
+  holds : (n : ℕ) → ((w : ℕ) → w < n → kindAt s w ≤ 9) → (h : Held) (w : ℕ) → free n h w ≡ true → Holds s fields constants n h w
+  holds n kinds Nothing w e = eqb-true w 0 e
+  holds n kinds Constant w e = ltb-true w constants e
+  holds n kinds Field w e = ltb-true w fields e
+  holds n kinds Expression w e =
+      let h = both (ltb w n) (leb (kindAt s w) 4) e in
+      record { lower = ltb-true w n (h .0); sort = leb-true (kindAt s w) 4 (h .1) }
+  holds n kinds Command w e =
+      let h = both (ltb w n) (ltb 4 (kindAt s w)) e in
+      let lower = ltb-true w n (h .0) in
+      record { lower = lower; least = ltb-true 4 (kindAt s w) (h .1); most = kinds w lower }
 
   pub well-formed : nodesVerdict s fields constants ≡ Passes → WellFormed s fields constants
-  unfolding placeRight
   well-formed e =
-      let passes : (n : ℕ) → In s n → Right n = λ n i. right n (each-passes (nodeCount s) e n (omega arith)) in
-      let known-each : (n : ℕ) → In s n → (kindAt s n ≤ 9) × (kindAt s n ≡ 2 → opAt s n ≤ 9) = λ n i. known-is _ _ (passes n i .known-node) in
+      let passes : (n : ℕ) → In s n → nodeVerdict s fields constants n ≡ Passes = λ n i. each-passes (nodeCount s) e n (omega arith) in
+      let known-each : (n : ℕ) → In s n → (kindAt s n ≤ 9) × (kindAt s n ≡ 2 → opAt s n ≤ 9) = λ n i. known-is _ _ (right n (ap passesOf (passes n i)) .0) in
       record {
         kind = λ n i. known-each n i .0;
         operator = λ n i. known-each n i .1;
-        places = λ n k i l. holds n (λ w h. known-each w (omega arith) .0) (heldIn (kindAt s n) k) (placeAt s n k) (passes n i .free Unused k l) (passes n i .free Range k l) (passes n i .free Sort k l);
+        places = λ n k i l. holds n (λ w h. known-each w (omega arith) .0) (heldIn (kindAt s n) k) (placeAt s n k) (right n (ap passesOf (passes n i)) .1 k l);
       }

@@ -1,5 +1,5 @@
 -- For other crates: `Loading.loaded` (what a sheet has that passes) and `Trees` (the tree at a node, one law a kind). The others serve the proofs of
--- this crate: checks in order, the sections' parts, the kinds' places, nodes judged, uses counted, depths.
+-- this crate: checks in order, the sections' parts, the kinds' places, nodes judged, uses counted, nodes taken, depths.
 pub mod Verdicts
 pub mod Parts
 pub mod Places
@@ -7,4 +7,5 @@ pub mod Judged
 pub mod Trees
 pub mod Depths
 pub mod Counted
+pub mod Taken
 pub mod Loading

@@ -1,12 +1,12 @@
 -- Load, check by check: what is told, and what a sheet has that passes.
-use Prim.Native.Nat.{ℕ, _-_}
+use Prim.Native.Nat.{ℕ, _-_, _≤_}
 use native.Mathlib.Omega.{arith}
 use mathlib.Core.Path.{_≡_, refl, sym}
 use mathlib.Core.Bool.{true, false}
 use mathlib.Core.List.{List}
 use borrow.Author.Tests.{leb-true, ltb-true, eqb-true}
 use lib.Dec.{leb, ltb, eqb}
-use lib.ListN.{drop}
+use lib.ListN.{length, drop}
 use Rattle.basis.proofs.Tests.{both, all-at}
 use Rattle.levels.specs.Levels.{right}
 use Rattle.sheet.specs.Verdict.{passesOf, _then_}
@@ -27,6 +27,15 @@ module _ (sheet : List ℕ) where
   layout-told e = sym (then-first _ _ e)
 
   module _ (layout : sectionsVerdict sheet ≡ Passes) where
+    -- 1 to 1,024 nodes
+    pub nodes-length : (8 ≤ length (nodesOf sheet)) × (length (nodesOf sheet) ≤ 8192)
+    nodes-length =
+        let nodes = sections-pass sheet layout .nodes in
+        let long = entries-length 8 (drop (nodesAt sheet) sheet) (nodes .whole) in
+        let some = nodes .some in
+        let few = nodes .few in
+        (omega arith, omega arith)
+
     pub levels-told : right (levelsOf sheet) ≡ false → Levels ≡ loadOf sheet
     unfolding loadOf _then_
     levels-told e = simp (layout, e)
@@ -71,16 +80,12 @@ module _ (sheet : List ℕ) where
     -- nodes that pass are well formed, and some
     pub formed : Formed (nodesOf sheet)
     formed =
-        let nodes = sections-pass sheet (p .layout) .nodes in
-        let long = entries-length 8 (drop (nodesAt sheet) sheet) (nodes .whole) in
-        let some = nodes .some in
-        let few = nodes .few in
         record {
           fields = fieldCount sheet;
           constants = constantCount sheet;
           nodes = well-formed (nodesOf sheet) (fieldCount sheet) (constantCount sheet) (p .nodes);
-          some-node = omega arith;
-          few = omega arith;
+          some-node = nodes-length (p .layout) .0;
+          few = nodes-length (p .layout) .1;
         }
 
   -- what a sheet has that passes

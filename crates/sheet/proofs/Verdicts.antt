@@ -1,6 +1,6 @@
 -- Checks in order: what passes, and what is told first.
 use mathlib.Core.Path.{_≡_, refl, sym, ap, _∙_}
-use mathlib.Core.Bool.{Bool, true, false, cond, true≢false}
+use mathlib.Core.Bool.{Bool, true, false, cond, _&&_, true≢false}
 use Rattle.sheet.specs.Verdict.{passesOf, _then_, told}
 use Rattle.sheet.specs.declared.verdict.Verdict.{Verdict}
 use Rattle.sheet.specs.declared.verdict.Verdict.the-variants.{Passes, Length, Count, Levels, Name, Node, Uses, Depth}
@@ -37,3 +37,13 @@ module _ (v w : Verdict) where
 pub told-right : (right : Bool) (v : Verdict) → passesOf v ≡ false → told right v ≡ Passes → right ≡ true
 told-right true v r e = refl
 told-right false v r e = absurd (true≢false (sym (ap passesOf e) ∙ r))
+
+-- checks in order pass where each does
+pub told-then : (right : Bool) (v w : Verdict) → passesOf v ≡ false → passesOf (told right v then w) ≡ (right && passesOf w)
+unfolding _then_
+told-then true v w r = refl
+told-then false v w r = rw r r
+
+pub told-last : (right : Bool) (v : Verdict) → passesOf v ≡ false → passesOf (told right v) ≡ right
+told-last true v r = refl
+told-last false v r = r

@@ -1,5 +1,5 @@
 -- In the order of document 01: the verdict's numbers, sections, names, nodes, the trees they make, uses, depth, and load, which is all of it.
--- `Rows` and `Counting` serve private functions only.
+-- `Rows` and `Counting` serve functions inside this crate only.
 pub mod Verdict
 pub mod Sections
 pub mod Names

@@ -29,14 +29,15 @@ pub fn load(sheet: &[u8]) -> Verdict
     }
     let constants = sections::constants(sheet);
     let nodes = sections::nodes(sheet);
-    let faults = nodes::judge_nodes(nodes, fields.len() / 8, constants.len() / 4);
+    let mut used = [0u8; 1024];
+    let faults = nodes::judge_nodes(nodes, fields.len() / 8, constants.len() / 4, &mut used);
     if !passes(faults) {
         return faults;
     }
-    if !uses::used_once(nodes) {
+    let last = nodes.len() / 8 - 1;
+    if !uses::all_once(&used, last) {
         return Verdict::Uses;
     }
-    let last = nodes.len() / 8 - 1;
     if kind_of(nodes, last) <= 4 {
         return Verdict::Uses;
     }

@@ -1,12 +1,17 @@
 // The nodes: what stands in their places, and what is wrong with them.
+use crate::uses::count_use;
 use crate::verdict::Fault;
 use crate::verdict::Verdict;
-use crate::verdict::passes;
 use basis::word;
 ghost use mathlib.Core.Path.{_≡_};
-ghost use Prim.Native.Nat.{_<_};
+ghost use mathlib.Core.Bool.{true, _&&_};
+ghost use Prim.Native.Nat.{ℕ, _≤_, _<_};
+ghost use lib.ListN.{length, getD};
+ghost use lib.Dec.{leb, ltb};
 ghost use Rattle.sheet.specs.Rows.{rowOf};
-ghost use Rattle.sheet.specs.Nodes.{In, kindAt, opAt, placeAt, heldIn, isChild, known, operatorZero, zeroIn, rangeRight, ofSort, sortRight, placeRight, placesRight, nodeVerdict, nodesVerdict};
+ghost use Rattle.sheet.specs.Verdict.{passesOf};
+ghost use Rattle.sheet.specs.Nodes.{In, nodeCount, kindAt, opAt, placeAt, heldIn, isChild, known, operatorZero, zeroIn, rangeRight, ofSort, sortRight, placeRight, placesRight, nodeVerdict, nodesVerdict};
+ghost use Rattle.sheet.specs.Counting.{Counts, counted, countedPlaces};
 
 // What a place of a node holds.
 pub enum Held {
@@ -213,16 +218,78 @@ fn judge_node(nodes: &[u8], fields: usize, constants: usize, n: usize) -> Verdic
     Verdict::Passes
 }
 
-// Judges all nodes, the lowest first.
-pub fn judge_nodes(nodes: &[u8], fields: usize, constants: usize) -> Verdict
-    ensures { λ r. ⌜ r ≡ nodesVerdict (now (nodes .entry)) fields constants ⌝ }
+// Takes node w for an expression of node n, and counts it: it must be lower, and of that sort.
+fn take_expression(nodes: &[u8], n: usize, w: usize, used: &mut [u8]) -> bool
+    requires { ⌜ In (now nodes) n × (n ≤ length (now used)) ⌝ }
+    ensures { λ r. ⌜ (r ≡ (ltb w n && leb (kindAt (now (nodes .entry)) w) 4)) × (r ≡ true → now (used .exit) ≡ counted w (now (used .entry))) ⌝ }
+{
+    if n <= w {
+        return false;
+    }
+    count_use(used, w);
+    kind_of(nodes, w) <= 4
+}
+
+// The same for a command.
+fn take_command(nodes: &[u8], n: usize, w: usize, used: &mut [u8]) -> bool
+    requires { ⌜ In (now nodes) n × (n ≤ length (now used)) ⌝ }
+    ensures { λ r. ⌜ (r ≡ (ltb w n && ltb 4 (kindAt (now (nodes .entry)) w))) × (r ≡ true → now (used .exit) ≡ counted w (now (used .entry))) ⌝ }
+{
+    if n <= w {
+        return false;
+    }
+    count_use(used, w);
+    4 < kind_of(nodes, w)
+}
+
+// Whether node n is free of every fault, by its kind; its children are counted.
+fn take_node(nodes: &[u8], fields: usize, constants: usize, n: usize, used: &mut [u8]) -> bool
+    requires { ⌜ In (now nodes) n × (n ≤ length (now used)) ⌝ }
+    ensures { λ r. ⌜ (r ≡ passesOf (nodeVerdict (now (nodes .entry)) fields constants n)) × (r ≡ true → now (used .exit) ≡ countedPlaces (now (nodes .entry)) n 3 (now (used .entry))) ⌝ }
+{
+    let kind = kind_of(nodes, n);
+    let op = op_of(nodes, n);
+    let a = place(nodes, n, 0);
+    let b = place(nodes, n, 1);
+    let c = place(nodes, n, 2);
+    match kind {
+        0 => (op == 0) & (a < constants) & (b == 0) & (c == 0),
+        1 => (op == 0) & (a < fields) & (b == 0) & (c == 0),
+        2 => (op <= 9)
+            & take_expression(nodes, n, a, used)
+            & take_expression(nodes, n, b, used)
+            & (c == 0),
+        3 => (op == 0) & take_expression(nodes, n, a, used) & (b == 0) & (c == 0),
+        4 => (op == 0) & take_expression(nodes, n, a, used) & (b == 0) & (c == 0),
+        5 => (op == 0) & (a == 0) & (b == 0) & (c == 0),
+        6 => (op == 0) & (a < fields) & take_expression(nodes, n, b, used) & (c == 0),
+        7 => (op == 0)
+            & take_command(nodes, n, a, used)
+            & take_command(nodes, n, b, used)
+            & (c == 0),
+        8 => (op == 0)
+            & take_expression(nodes, n, a, used)
+            & take_command(nodes, n, b, used)
+            & take_command(nodes, n, c, used),
+        9 => (op == 0)
+            & take_expression(nodes, n, a, used)
+            & take_command(nodes, n, b, used)
+            & (c == 0),
+        _ => false,
+    }
+}
+
+// Judges all nodes, the lowest first, and counts how often each is a child, from an array of zeros.
+// Which fault it is, is asked only of a node that has one.
+pub fn judge_nodes(nodes: &[u8], fields: usize, constants: usize, used: &mut [u8]) -> Verdict
+    requires { ⌜ (nodeCount (now nodes) ≤ length (now used)) × ((c : ℕ) → getD (now used) c 0 ≡ 0) ⌝ }
+    ensures { λ r. ⌜ (r ≡ nodesVerdict (now (nodes .entry)) fields constants) × (passesOf r ≡ true → Counts (now (nodes .entry)) (nodeCount (now (nodes .entry))) (now (used .exit))) ⌝ }
 {
     let count = nodes.len() / 8;
     let mut n = 0;
     while n < count {
-        let verdict = judge_node(nodes, fields, constants, n);
-        if !passes(verdict) {
-            return verdict;
+        if !take_node(nodes, fields, constants, n, used) {
+            return judge_node(nodes, fields, constants, n);
         }
         n += 1;
     }
