@@ -1,7 +1,8 @@
 -- In the order of document 01: the verdict's numbers, sections, names, nodes, the trees they make, uses, depth, and load, which is all of it.
--- `Rows` and `Counting` serve functions inside this crate only.
+-- `Reader`, `Rows` and `Counting` serve functions inside this crate only.
 pub mod Verdict
 pub mod Sections
+pub mod Reader
 pub mod Names
 pub mod Nodes
 pub mod Rows

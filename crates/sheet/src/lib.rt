@@ -2,6 +2,8 @@
 pub mod depth;
 pub mod names;
 pub mod nodes;
+mod reader;
+mod section;
 pub mod sections;
 pub mod uses;
 pub mod verdict;

@@ -2,8 +2,8 @@
 use borrow.Author.Needs.{needs}
 use mathlib.Core.Path.{ap, _∙_}
 use Rattle.sheet.specs.Sections.{sectionVerdict}
-use Rattle.sheet.proofs.sections.judge_at.Statement.{statement}
-use Rattle.sheet.proofs.sections.judge_at.Tie as tie
+use Rattle.sheet.proofs.section.judge_at.Statement.{statement}
+use Rattle.sheet.proofs.section.judge_at.Tie as tie
 
 returns : tie.Need-returns
 returns c = c .judge-section .ensures ∙ ap (sectionVerdict _ _ _) (c .before .rest-at .ensures)

@@ -4,8 +4,8 @@ use native.Mathlib.Omega.{arith}
 use denote.Ref.{now}
 use lib.ListN.{length-drop}
 use Rattle.sheet.specs.Sections.{placeAfter}
-use Rattle.sheet.proofs.sections.place_after.Statement.{statement}
-use Rattle.sheet.proofs.sections.place_after.Tie as tie
+use Rattle.sheet.proofs.section.place_after.Statement.{statement}
+use Rattle.sheet.proofs.section.place_after.Tie as tie
 
 returns : tie.Need-returns
 unfolding placeAfter

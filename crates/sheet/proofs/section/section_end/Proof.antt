@@ -5,8 +5,8 @@ use native.Mathlib.Omega.{arith}
 use mathlib.Core.Path.{ap}
 use Rattle.sheet.specs.Sections.{endOf}
 use Rattle.sheet.proofs.Parts.{few-bytes}
-use Rattle.sheet.proofs.sections.section_end.Statement.{statement}
-use Rattle.sheet.proofs.sections.section_end.Tie as tie
+use Rattle.sheet.proofs.section.section_end.Statement.{statement}
+use Rattle.sheet.proofs.section.section_end.Tie as tie
 
 few : (c : tie.After-word) → c .word .result * c .before .before .args .size < 16777216
 few c = few-bytes (c .word .result) (c .before .before .args .size) (c .word .ensures .1) (search needs)

@@ -3,8 +3,8 @@ use borrow.Author.Needs.{needs}
 use native.Mathlib.Omega.{arith}
 use denote.Ref.{now}
 use Rattle.sheet.proofs.Parts.{end-least}
-use Rattle.sheet.proofs.sections.part_end.Statement.{statement}
-use Rattle.sheet.proofs.sections.part_end.Tie as tie
+use Rattle.sheet.proofs.section.part_end.Statement.{statement}
+use Rattle.sheet.proofs.section.part_end.Tie as tie
 
 returns : tie.Need-returns
 returns c = omega (arith, end-least (c .before .before .args .size) (now (c .before .before .args .rest)))

@@ -2,8 +2,8 @@
 use borrow.Author.Needs.{needs}
 use denote.Ref.{now}
 use Rattle.sheet.proofs.Parts.{entries-part, entries-none}
-use Rattle.sheet.proofs.sections.entries.Statement.{statement}
-use Rattle.sheet.proofs.sections.entries.Tie as tie
+use Rattle.sheet.proofs.section.entries.Statement.{statement}
+use Rattle.sheet.proofs.section.entries.Tie as tie
 
 returns : tie.Need-returns
 returns c =

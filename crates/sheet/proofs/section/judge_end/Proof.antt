@@ -2,8 +2,8 @@
 use borrow.Author.Needs.{needs}
 use mathlib.Core.Path.{sym}
 use borrow.Author.Tests.{eq-eqb, ne-eqb}
-use Rattle.sheet.proofs.sections.judge_end.Statement.{statement}
-use Rattle.sheet.proofs.sections.judge_end.Tie as tie
+use Rattle.sheet.proofs.section.judge_end.Statement.{statement}
+use Rattle.sheet.proofs.section.judge_end.Tie as tie
 
 returns : tie.Need-returns
 returns c = rw (sym (c .before .rest-at .ensures)) (simp (eq-eqb _ _ (c .if1 .taken)))

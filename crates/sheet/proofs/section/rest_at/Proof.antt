@@ -3,8 +3,8 @@ use borrow.Author.Needs.{needs}
 use native.Mathlib.Omega.{arith}
 use denote.Ref.{now}
 use Rattle.sheet.proofs.Parts.{rest-is, rest-past}
-use Rattle.sheet.proofs.sections.rest_at.Statement.{statement}
-use Rattle.sheet.proofs.sections.rest_at.Tie as tie
+use Rattle.sheet.proofs.section.rest_at.Statement.{statement}
+use Rattle.sheet.proofs.section.rest_at.Tie as tie
 
 returns : tie.Need-returns
 returns c = rest-is (now (c .before .before .args .sheet)) (c .before .before .args .at)

@@ -2,8 +2,8 @@
 use borrow.Author.Needs.{needs}
 use mathlib.Core.Path.{ap, _∙_}
 use Rattle.sheet.specs.Sections.{entriesOf}
-use Rattle.sheet.proofs.sections.entries_at.Statement.{statement}
-use Rattle.sheet.proofs.sections.entries_at.Tie as tie
+use Rattle.sheet.proofs.section.entries_at.Statement.{statement}
+use Rattle.sheet.proofs.section.entries_at.Tie as tie
 
 returns : tie.Need-returns
 returns c = c .entries .ensures ∙ ap (entriesOf _) (c .before .rest-at .ensures)

@@ -3,8 +3,8 @@ use borrow.Author.Needs.{needs}
 use native.Mathlib.Omega.{arith}
 use denote.Ref.{now}
 use Rattle.sheet.proofs.Parts.{section-short, section-few, section-many, section-cut, section-whole}
-use Rattle.sheet.proofs.sections.judge_section.Statement.{statement}
-use Rattle.sheet.proofs.sections.judge_section.Tie as tie
+use Rattle.sheet.proofs.section.judge_section.Statement.{statement}
+use Rattle.sheet.proofs.section.judge_section.Tie as tie
 
 returns : tie.Need-returns
 returns c =
