@@ -206,7 +206,12 @@ static bool names_right(const struct section *fields)
     return true;
 }
 
-/* The nodes: number 5. */
+/* The nodes: numbers 19 to 22, with the node as the place. */
+
+static inline unsigned at_node(unsigned number, unsigned n)
+{
+    return number | n << 8;
+}
 
 static inline const uint8_t *node_at(const uint8_t *nodes, unsigned n)
 {
@@ -271,12 +276,66 @@ static inline bool node_right(const struct sheet *sheet, unsigned n)
     }
 }
 
-static bool nodes_right(const struct sheet *sheet)
+/* What the places of a node hold. */
+enum held { NOTHING, A_CONSTANT, A_FIELD, A_CHILD };
+
+static const uint8_t held_in[KINDS][PLACES] = {
+    [CONSTANT] = {A_CONSTANT},
+    [FIELD] = {A_FIELD},
+    [OPERATOR] = {A_CHILD, A_CHILD},
+    [NOT] = {A_CHILD},
+    [SEAL] = {A_CHILD},
+    [ASSIGNMENT] = {A_FIELD, A_CHILD},
+    [SEQUENCE] = {A_CHILD, A_CHILD},
+    [IF] = {A_CHILD, A_CHILD, A_CHILD},
+    [WHILE] = {A_CHILD, A_CHILD},
+};
+
+/* What stands in such a place of node n is lower than this. */
+static unsigned limit(const struct sheet *sheet, enum held held, unsigned n)
+{
+    switch (held) {
+    case NOTHING:
+        return 1;
+    case A_CONSTANT:
+        return sheet->constants.count;
+    case A_FIELD:
+        return sheet->fields.count;
+    default:
+        return n;
+    }
+}
+
+/* Whether the places of node n that its kind uses, or those that it does not, are within their limits. */
+static bool places_within(const struct sheet *sheet, unsigned n, bool used)
+{
+    const uint8_t *node = node_at(sheet->nodes.entries, n);
+    for (unsigned k = 0; k < PLACES; k++) {
+        enum held held = held_in[node[0]][k];
+        if ((held != NOTHING) == used && two_bytes(node + 2 + 2 * k) >= limit(sheet, held, n))
+            return false;
+    }
+    return true;
+}
+
+/* What is wrong with a node that is not right: if nothing else, a child's sort. */
+static unsigned fault_of(const struct sheet *sheet, unsigned n)
+{
+    const uint8_t *node = node_at(sheet->nodes.entries, n);
+    unsigned kind = node[0], operator = node[1];
+    if (kind >= KINDS || (kind == OPERATOR && operator >= OPERATORS))
+        return NODE_UNKNOWN;
+    if ((kind != OPERATOR && operator != 0) || !places_within(sheet, n, false))
+        return NODE_UNUSED;
+    return places_within(sheet, n, true) ? NODE_SORT : NODE_RANGE;
+}
+
+static unsigned judge_nodes(const struct sheet *sheet)
 {
     for (unsigned n = 0; n < sheet->nodes.count; n++)
         if (!node_right(sheet, n))
-            return false;
-    return true;
+            return at_node(fault_of(sheet, n), n);
+    return DONE;
 }
 
 /* The tree: numbers 6 and 7. */
@@ -335,7 +394,7 @@ static unsigned judge_tree(const struct section *nodes)
     return deepest <= DEPTH ? DONE : TOO_DEEP;
 }
 
-/* Load. */
+/* Load: a number, and its place as in the answer word. */
 
 static unsigned judge(const uint8_t *bytes, size_t length, struct sheet *sheet, struct levels *levels)
 {
@@ -347,9 +406,8 @@ static unsigned judge(const uint8_t *bytes, size_t length, struct sheet *sheet, 
         return LEVELS_WRONG;
     if (!names_right(&sheet->fields))
         return NAME_WRONG;
-    if (!nodes_right(sheet))
-        return NODE_WRONG;
-    return judge_tree(&sheet->nodes);
+    unsigned faulty = judge_nodes(sheet);
+    return faulty != DONE ? faulty : judge_tree(&sheet->nodes);
 }
 
 uint64_t c_load(const uint8_t *sheet, size_t sheet_len)
@@ -399,11 +457,6 @@ static inline unsigned join_marks(const struct levels *levels, unsigned m, unsig
     if (m == k)
         return m;
     return join(levels, level_of(m), level_of(k)) | ((m | k) & PARTIAL);
-}
-
-static inline unsigned stop(unsigned number, unsigned place)
-{
-    return number | place << 8;
 }
 
 /* What an operator gives, or the number that it stops with. */
@@ -471,7 +524,7 @@ static inline result work_out_operator(const struct run *run, const uint8_t *nod
     int32_t value;
     unsigned number = apply(node[1], value_of(left), value_of(right), &value);
     if (number != DONE)
-        return STOPPED | stop(number, n);
+        return STOPPED | at_node(number, n);
     return marked(join_marks(&run->levels, mark_of(left), mark_of(right)), value);
 }
 
@@ -507,7 +560,7 @@ static inline unsigned assign(struct run *run, const uint8_t *node, unsigned n, 
     if (at_or_below(&run->levels, context, level))
         *field = marked(join_marks(&run->levels, mark_of(worked), context), value_of(worked));
     else if (run->mode == STRICT)
-        return stop(CONTEXT_ABOVE, n);
+        return at_node(CONTEXT_ABOVE, n);
     else
         *field = marked(meet(&run->levels, context, level) | PARTIAL, value_of(worked));
     return DONE;
@@ -516,7 +569,7 @@ static inline unsigned assign(struct run *run, const uint8_t *node, unsigned n, 
 static inline unsigned skip_or_assign(struct run *run, const uint8_t *node, unsigned n, unsigned context)
 {
     if (run->left == 0)
-        return stop(FUEL_USED_UP, n);
+        return at_node(FUEL_USED_UP, n);
     run->left--;
     return node[0] == SKIP ? DONE : assign(run, node, n, context);
 }
@@ -525,13 +578,13 @@ static inline unsigned skip_or_assign(struct run *run, const uint8_t *node, unsi
 static inline result test(struct run *run, const uint8_t *node, unsigned n, unsigned context)
 {
     if (run->left == 0)
-        return STOPPED | stop(FUEL_USED_UP, n);
+        return STOPPED | at_node(FUEL_USED_UP, n);
     run->left--;
     result worked = work_out(run, a_of(node));
     if (worked & STOPPED)
         return worked;
     if (mark_of(worked) & PARTIAL)
-        return STOPPED | stop(PARTIAL_TEST, n);
+        return STOPPED | at_node(PARTIAL_TEST, n);
     return marked(join_marks(&run->levels, mark_of(worked), context), value_of(worked));
 }
 
@@ -613,9 +666,9 @@ uint64_t c_run(const uint8_t *sheet, size_t sheet_len, const uint8_t *store, siz
     struct run run;
     if (mode > PERMISSIVE || fuel > FUEL_LIMIT)
         return MODE_OR_FUEL;
-    unsigned number = judge(sheet, sheet_len, &read, &run.levels);
-    if (number != DONE)
-        return number;
+    unsigned refused = judge(sheet, sheet_len, &read, &run.levels);
+    if (refused)
+        return refused;
     unsigned fields = read.fields.count;
     size_t store_size = COUNT_SIZE + (size_t)ENTRY_SIZE * fields;
     if (store_len != store_size || two_bytes(store) != fields)

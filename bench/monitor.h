@@ -18,7 +18,6 @@ enum number {
     COUNT_OUTSIDE = 2,
     LEVELS_WRONG = 3,
     NAME_WRONG = 4,
-    NODE_WRONG = 5,
     NOT_USED_ONCE = 6,
     TOO_DEEP = 7,
     STORE_SIZE = 8,
@@ -29,7 +28,11 @@ enum number {
     OUT_OF_RANGE = 13,
     DIVISOR_ZERO = 14,
     CONTEXT_ABOVE = 15,
-    PARTIAL_TEST = 16
+    PARTIAL_TEST = 16,
+    NODE_UNKNOWN = 19,
+    NODE_UNUSED = 20,
+    NODE_RANGE = 21,
+    NODE_SORT = 22
 };
 
 enum mode { STRICT = 0, PERMISSIVE = 1 };
@@ -49,6 +52,7 @@ enum {
     CONSTANT_SIZE = 4,
     NODES = 1024,
     NODE_SIZE = 8,
+    PLACES = 3,
     DEPTH = 64,
     ENTRY_SIZE = 5,
     FUEL_LIMIT = 1000000

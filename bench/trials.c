@@ -1,4 +1,4 @@
-/* Document 01's trials, run on the monitor by hand: a wrong C would be a wrong measure. */
+/* Document 01's trials and the faults of nodes, tried on the monitor by hand: a wrong C would be a wrong measure. */
 #include "beltuqash.h"
 #include "monitor.h"
 #include "sheets.h"
@@ -260,6 +260,55 @@ static void try_limits(void)
     expect(load_nots(DEPTH) == DONE && load_nots(DEPTH + 1) == TOO_DEEP && load_nots(NODES) == TOO_DEEP, "depth");
 }
 
+static bool at(uint64_t word, unsigned number, unsigned n)
+{
+    return word == (number | (uint64_t)n << 8);
+}
+
+/* f := f + 1 with one byte of node n set to a value; nodes 0 and 1 are the operands, 2 the sum, 3 the assignment. */
+static uint64_t load_with(unsigned n, unsigned byte, uint8_t value)
+{
+    struct draft d;
+    begin(&d, 1, one_level);
+    unsigned left = field(&d, new_field(&d, 0, 0)), right = constant(&d, 1);
+    assignment(&d, 0, operation(&d, ADD, left, right));
+    d.nodes[n][byte] = value;
+    return load(&d);
+}
+
+static void try_nodes(void)
+{
+    expect(load_with(0, 0, FIELD) == DONE, "f := f + 1 is taken");
+    expect(at(load_with(1, 0, KINDS), NODE_UNKNOWN, 1), "kind 10: 19");
+    expect(at(load_with(2, 1, OPERATORS), NODE_UNKNOWN, 2), "operator 10: 19");
+    expect(at(load_with(3, 1, OPERATORS), NODE_UNUSED, 3), "an operator byte in an assignment: 20");
+    expect(at(load_with(2, 7, 1), NODE_UNUSED, 2), "an unused place: 20");
+    expect(at(load_with(0, 2, 1), NODE_RANGE, 0), "a field that is not there: 21");
+    expect(at(load_with(1, 3, 1), NODE_RANGE, 1), "a constant that is not there: 21");
+    expect(at(load_with(2, 4, 2), NODE_RANGE, 2), "its own child: 21");
+    expect(at(load_with(1, 0, SKIP), NODE_SORT, 2), "a command for an operand: 22");
+}
+
+/* Node 2 is an operator with every fault; they are put right one after another. */
+static void try_order_of_faults(void)
+{
+    struct draft d;
+    begin(&d, 1, one_level);
+    field(&d, new_field(&d, 0, 0));
+    assignment(&d, 0, operation(&d, ADD, skip(&d), 2));
+    uint8_t *node = d.nodes[2];
+    node[1] = OPERATORS;
+    node[6] = 1;
+    expect(at(load(&d), NODE_UNKNOWN, 2), "19 before 20 in a node");
+    node[1] = OR;
+    expect(at(load(&d), NODE_UNUSED, 2), "20 before 21 in a node");
+    node[6] = 0;
+    expect(at(load(&d), NODE_RANGE, 2), "21 before 22 in a node");
+    node[4] = 0;
+    d.nodes[3][0] = KINDS;
+    expect(at(load(&d), NODE_SORT, 2), "22 in a node before 19 in the next");
+}
+
 /* The runner's example: q := q + 1 from 41 at level 1. The output has a byte to spare. */
 static void try_example(void)
 {
@@ -289,6 +338,8 @@ int main(void)
     try_context();
     try_levels();
     try_limits();
+    try_nodes();
+    try_order_of_faults();
     try_example();
     if (wrong == 0)
         printf("monitor.c does what document 01's trials say\n");

@@ -1,4 +1,4 @@
-/* Judges the sheets in the files that it is given, and prints what load answers for each. */
+/* Judges the sheets in the files that it is given, and prints what load answers for each, with the node if one is faulty. */
 #include "beltuqash.h"
 
 #include <stdio.h>
@@ -16,9 +16,12 @@ static int judge(const char *path)
     }
     size_t length = fread(sheet, 1, sizeof sheet, file);
     fclose(file);
-    unsigned number = beltuqash_number(beltuqash_load(sheet, length));
+    uint64_t word = beltuqash_load(sheet, length);
+    unsigned number = beltuqash_number(word);
     if (number == BELTUQASH_DONE)
         printf("%s: taken\n", path);
+    else if (BELTUQASH_NODE_UNKNOWN <= number && number <= BELTUQASH_NODE_SORT)
+        printf("%s: refused with number %u at node %u\n", path, number, beltuqash_place(word));
     else
         printf("%s: refused with number %u\n", path, number);
     return EXIT_SUCCESS;

@@ -32,9 +32,10 @@ static int load(const char *path)
     }
     sheet_len = fread(sheet, 1, sizeof sheet, file);
     fclose(file);
-    unsigned number = beltuqash_number(beltuqash_load(sheet, sheet_len));
+    uint64_t word = beltuqash_load(sheet, sheet_len);
+    unsigned number = beltuqash_number(word);
     if (number != BELTUQASH_DONE) {
-        fprintf(stderr, "%s: refused with number %u: %s\n", path, number, beltuqash_reason(number));
+        fprintf(stderr, "%s: refused with number %u at %u: %s\n", path, number, beltuqash_place(word), beltuqash_reason(number));
         return 0;
     }
     const uint8_t *count = sheet + 2 + 2 * sheet[0]; /* of the fields, behind the levels; in a sheet that passes, low bytes tell both counts */

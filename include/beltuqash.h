@@ -17,32 +17,35 @@
 extern "C" {
 #endif
 
-/* Judges a sheet. A sheet that passes has at most 9,768 bytes. Numbers 0 to 7; place and units are 0. */
+/* Judges a sheet. A sheet that passes has at most 9,768 bytes. Numbers 0 to 4, 6, 7 and 19 to 22; the place is a node's number for 19 to 22;
+ * the units are 0. */
 uint64_t beltuqash_load(const uint8_t *sheet, size_t sheet_len);
 
 /* Runs a sheet from a store and writes the final store to out: 2 bytes, and 5 per field, so at most 322. The sheet is judged first, as load does.
  * mode is BELTUQASH_STRICT or BELTUQASH_PERMISSIVE, fuel at most 1,000,000; any other number is refused with 10. To run on from a final store,
- * lend it as the store and other memory as out. Numbers 0 to 16; the place is a node's number for 12 to 16; the units are those spent,
- * 0 for 1 to 11. */
+ * lend it as the store and other memory as out. Numbers 0 to 4, 6 to 16 and 19 to 22; the place is a node's number for 12 to 16 and for
+ * 19 to 22; the units are those spent, 0 for a call that is refused before it runs (1 to 11 and 19 to 22). */
 uint64_t beltuqash_run(const uint8_t *sheet, size_t sheet_len, const uint8_t *store, size_t store_len, uint32_t mode, uint32_t fuel,
                        uint8_t *out, size_t out_len);
 
 /* Hands a reader what a request asks of a store and writes the answer: 2 bytes, and 5 per asked field (1 and the value, or 0 and value 0 if
  * the reader may not see it), so at most 322. reader is a level of the sheet. A partial field asked refuses the whole request.
- * Numbers 0 to 9, 11, 17 and 18; the place is a position in the request, from 0, for 18; the units are 0. */
+ * Numbers 0 to 4, 6 to 9, 11, 17, 18 and 19 to 22; the place is a position in the request, from 0, for 18, and a node's number for 19 to 22;
+ * the units are 0. */
 uint64_t beltuqash_hand_out(const uint8_t *sheet, size_t sheet_len, const uint8_t *store, size_t store_len, uint32_t reader,
                             const uint8_t *request, size_t request_len, uint8_t *answer, size_t answer_len);
 
 enum beltuqash_mode { BELTUQASH_STRICT = 0, BELTUQASH_PERMISSIVE = 1 };
 
-/* What comes back. Numbers 1 to 7 are of the sheet, 8 and 9 of the store, 10 and 11 of the call, 12 to 16 of the run, 17 and 18 of the hand-out. */
+/* What comes back. Numbers 1 to 7 and 19 to 22 are of the sheet, 8 and 9 of the store, 10 and 11 of the call, 12 to 16 of the run, 17 and 18 of the
+ * hand-out. Of 19 to 22, the lowest faulty node is told, and of that node the first that it earns. */
 enum beltuqash_number {
     BELTUQASH_DONE = 0,
     BELTUQASH_SHEET_LENGTH = 1,       /* sheet ends too soon or has bytes left */
     BELTUQASH_COUNT_OUTSIDE = 2,      /* a count outside its limits */
     BELTUQASH_LEVELS_WRONG = 3,       /* levels no lattice, or a bit at or past the count */
     BELTUQASH_NAME_WRONG = 4,         /* a bad or repeated name */
-    BELTUQASH_NODE_WRONG = 5,         /* a node's kind, operator, child number, child's sort, index or unused place */
+    /* 5 is never given; 19 to 22 stand here in the order of checks */
     BELTUQASH_NOT_USED_ONCE = 6,      /* a node not used once, or the last not a command */
     BELTUQASH_TOO_DEEP = 7,           /* depth over 64 */
     BELTUQASH_STORE_MISFIT = 8,       /* store length or count doesn't fit the sheet */
@@ -55,7 +58,11 @@ enum beltuqash_number {
     BELTUQASH_NOT_BELOW = 15,         /* strict: context not at or below the field's level; place: the assignment */
     BELTUQASH_PARTIAL_TEST = 16,      /* permissive: partial test; place: the if or while */
     BELTUQASH_READER_OR_REQUEST = 17, /* reader unknown, or the request's size, count or a field number wrong */
-    BELTUQASH_PARTIAL_ASKED = 18      /* partial field asked; place: the first such position in the request, from 0 */
+    BELTUQASH_PARTIAL_ASKED = 18,     /* partial field asked; place: the first such position in the request, from 0 */
+    BELTUQASH_NODE_UNKNOWN = 19,      /* unknown kind or operator; place: the node */
+    BELTUQASH_NODE_UNUSED = 20,       /* unused place, or operator byte in a kind without one, not 0; place: the node */
+    BELTUQASH_NODE_RANGE = 21,        /* child or index number out of range or not lower; place: the node */
+    BELTUQASH_NODE_SORT = 22          /* child of the wrong sort; place: the node */
 };
 
 /* The answer word, taken apart. */
@@ -72,7 +79,6 @@ static inline const char *beltuqash_reason(unsigned number)
     case BELTUQASH_COUNT_OUTSIDE: return "the sheet has too few or too many levels, fields, constants or nodes";
     case BELTUQASH_LEVELS_WRONG: return "the levels are not ordered so that every two have a join and a meet";
     case BELTUQASH_NAME_WRONG: return "a field's name is not written as names are, or two fields have the same name";
-    case BELTUQASH_NODE_WRONG: return "a node has a wrong kind, operator, child or index, or something in a place that it does not use";
     case BELTUQASH_NOT_USED_ONCE: return "a node is used twice or not at all, or the last node is not a command";
     case BELTUQASH_TOO_DEEP: return "the nodes are nested more than 64 deep";
     case BELTUQASH_STORE_MISFIT: return "the store is not as long as the sheet's fields need, or counts another number of fields";
@@ -86,6 +92,10 @@ static inline const char *beltuqash_reason(unsigned number)
     case BELTUQASH_PARTIAL_TEST: return "an if or while would test a partial value, and which way it goes could tell a closed one (permissive)";
     case BELTUQASH_READER_OR_REQUEST: return "the reader is not a level of the sheet, or the request's size, count or a field number is wrong";
     case BELTUQASH_PARTIAL_ASKED: return "a partial field is asked for, and a price or a blank there could tell a closed value";
+    case BELTUQASH_NODE_UNKNOWN: return "a node has a kind or an operator that does not exist";
+    case BELTUQASH_NODE_UNUSED: return "a node has something other than 0 in a place, or as its operator, that its kind does not use";
+    case BELTUQASH_NODE_RANGE: return "a node names a field or a constant that the sheet does not have, or a child that does not stand before it";
+    case BELTUQASH_NODE_SORT: return "a node has a command where an expression belongs, or an expression where a command belongs";
     default: return "no such number";
     }
 }

@@ -14,7 +14,7 @@
 #include <sys/mman.h>
 #include <unistd.h>
 
-enum { ROOM = 16384, GUARD = 0xa5, MOST_FUEL = 1000000, MOST_FIELDS = 64, NUMBERS = 19, BASES = 16 };
+enum { ROOM = 16384, GUARD = 0xa5, MOST_FUEL = 1000000, MOST_FIELDS = 64, NUMBERS = 23, BASES = 16 };
 
 /* ---- random numbers, always the same ---- */
 
@@ -123,11 +123,12 @@ enum call { LOAD, RUN, HAND_OUT, CALLS };
 
 static const char *const call_names[CALLS] = {"load", "run", "hand-out"};
 
-/* The numbers that each call may answer, from 0 to 18. */
-static const char *const call_numbers[CALLS] = {"yyyyyyyynnnnnnnnnnn", "yyyyyyyyyyyyyyyyynn", "yyyyyyyyyynynnnnnyy"};
+/* The numbers that each call may answer, from 0 to 22. */
+static const char *const call_numbers[CALLS] = {"yyyyynyynnnnnnnnnnnyyyy", "yyyyynyyyyyyyyyyynnyyyy", "yyyyynyyyynynnnnnyyyyyy"};
 
 static struct fenced sheet_room, store_room, request_room;
 static unsigned long seen[CALLS][NUMBERS]; /* how often each number came */
+static unsigned place[CALLS];              /* the place that came last */
 
 /* Counts a word, and demands what holds of every word: its number is one of the call's, and place and units come only with numbers that have them. */
 static unsigned count(enum call call, uint64_t word)
@@ -135,9 +136,11 @@ static unsigned count(enum call call, uint64_t word)
     unsigned number = beltuqash_number(word);
     demand(number < NUMBERS && call_numbers[call][number] == 'y', "a number that this call does not have");
     demand((word >> 24 & 0xff) == 0, "bits of the word that mean nothing are set");
+    place[call] = beltuqash_place(word);
+    demand(place[call] < 1024, "a place that no node has");
     int has_place = 12 <= number && number != BELTUQASH_READER_OR_REQUEST;
     int has_units = number == 0 || (12 <= number && number <= 16);
-    demand(has_place || beltuqash_place(word) == 0, "a place where there is none");
+    demand(has_place || place[call] == 0, "a place where there is none");
     demand(has_units || beltuqash_units(word) == 0, "units where there are none");
     seen[call][number]++;
     return number;
@@ -163,7 +166,6 @@ static unsigned run(const struct bytes *sheet, const struct bytes *store, uint32
     take_back(t);
     unsigned number = count(RUN, word);
     demand(beltuqash_units(word) <= fuel, "more units than fuel");
-    demand(beltuqash_place(word) < 1024, "a place that no node has");
     size_t written = number == BELTUQASH_DONE ? store->length : 0;
     demand(written <= out_len, "success with a short output");
     take_back_output(out, written);
@@ -186,7 +188,7 @@ static unsigned hand_out(const struct bytes *sheet, const struct bytes *store, u
     take_back(r);
     unsigned number = count(HAND_OUT, word);
     size_t asked = request->length < 2 ? 0 : (request->length - 2) / 2;
-    demand(number != BELTUQASH_PARTIAL_ASKED || beltuqash_place(word) < asked, "a place that the request does not have");
+    demand(number != BELTUQASH_PARTIAL_ASKED || place[HAND_OUT] < asked, "a place that the request does not have");
     size_t written = number == BELTUQASH_DONE ? 2 + 5 * asked : 0;
     demand(written <= answer_len, "success with a short answer");
     take_back_output(answer, written);
@@ -314,13 +316,13 @@ static void damage(struct bytes *bytes)
     }
 }
 
-/* Whether a sheet's number is the run's or the hand-out's too: both judge the sheet first. */
-static void demand_sheets_number(unsigned judged, unsigned number)
+/* Whether a sheet's number and place are the run's or the hand-out's too: both judge the sheet first. */
+static void demand_sheets_number(unsigned judged, enum call call, unsigned number)
 {
     if (judged != BELTUQASH_DONE)
-        demand(number == judged, "another number than load's");
+        demand(number == judged && place[call] == place[LOAD], "another number or place than load's");
     else
-        demand(number == BELTUQASH_DONE || BELTUQASH_STORE_MISFIT <= number, "a sheet that load takes is refused");
+        demand(number == BELTUQASH_DONE || (BELTUQASH_STORE_MISFIT <= number && number < BELTUQASH_NODE_UNKNOWN), "a sheet that load takes is refused");
 }
 
 /* One round: something of a call is damaged, and all three calls are made. */
@@ -347,10 +349,10 @@ static void throw_damaged(void)
     if (mode > 1 || fuel > MOST_FUEL)
         demand(number == BELTUQASH_MODE_OR_FUEL, "a wrong mode or fuel is taken");
     else
-        demand_sheets_number(judged, number);
-    demand_sheets_number(judged, hand_out(&sheet, &store, reader, &request, out_len));
+        demand_sheets_number(judged, RUN, number);
+    demand_sheets_number(judged, HAND_OUT, hand_out(&sheet, &store, reader, &request, out_len));
     if (number == BELTUQASH_DONE)
-        demand_sheets_number(judged, hand_out(&sheet, &final_store, reader, &request, out_len));
+        demand_sheets_number(judged, HAND_OUT, hand_out(&sheet, &final_store, reader, &request, out_len));
 }
 
 /* Every cut and some growths of right input, and every short output, with the number that each must get. */
@@ -367,8 +369,8 @@ static void throw_every_cut(const struct base *base)
     for (sheet.length = 0; sheet.length < base->sheet.length + 9; sheet.length++) {
         unsigned right = sheet.length == base->sheet.length ? base->number : BELTUQASH_SHEET_LENGTH;
         demand(load(&sheet) == right, "a cut or grown sheet");
-        demand_sheets_number(right, run(&sheet, &store, BELTUQASH_STRICT, 100, whole, &final_store));
-        demand_sheets_number(right, hand_out(&sheet, &store, 0, &request, whole));
+        demand_sheets_number(right, RUN, run(&sheet, &store, BELTUQASH_STRICT, 100, whole, &final_store));
+        demand_sheets_number(right, HAND_OUT, hand_out(&sheet, &store, 0, &request, whole));
     }
     if (base->number != BELTUQASH_DONE)
         return;
@@ -421,8 +423,9 @@ static void check_reasons(void)
     for (unsigned number = 0; number < NUMBERS; number++)
         for (unsigned other = 0; other < number; other++)
             demand(strcmp(beltuqash_reason(number), beltuqash_reason(other)) != 0, "two numbers have one reason");
-    demand(strcmp(beltuqash_reason(NUMBERS), "no such number") == 0, "19");
-    demand(strcmp(beltuqash_reason(NUMBERS - 1), "no such number") != 0, "18");
+    demand(strcmp(beltuqash_reason(5), "no such number") == 0, "5");
+    demand(strcmp(beltuqash_reason(NUMBERS), "no such number") == 0, "23");
+    demand(strcmp(beltuqash_reason(NUMBERS - 1), "no such number") != 0, "22");
     demand(strcmp(beltuqash_reason(0u - 1), "no such number") == 0, "the greatest number");
 }
 

@@ -1,4 +1,4 @@
-// What comes back, by document 01's table: the number of each refusal, and 0 for none.
+// What comes back, by document 01's table: the number of each refusal, and 0 for none. What is wrong with a node has 19 to 22; 5 is never given.
 pub const DONE: u8 = 0;
 
 pub const SHEET_LENGTH: u8 = 1;
@@ -8,8 +8,6 @@ pub const COUNT_OUTSIDE: u8 = 2;
 pub const LEVELS_WRONG: u8 = 3;
 
 pub const NAME_WRONG: u8 = 4;
-
-pub const NODE_WRONG: u8 = 5;
 
 pub const NOT_USED_ONCE: u8 = 6;
 
@@ -36,3 +34,11 @@ pub const PARTIAL_TEST: u8 = 16;
 pub const READER_OR_REQUEST: u8 = 17;
 
 pub const PARTIAL_ASKED: u8 = 18;
+
+pub const NODE_UNKNOWN: u8 = 19;
+
+pub const NODE_UNUSED: u8 = 20;
+
+pub const NODE_RANGE: u8 = 21;
+
+pub const NODE_SORT: u8 = 22;

@@ -23,7 +23,7 @@ module _ (sheet store : List ℕ) (reader : ℕ) (request out : List ℕ) where
   abbrev whole : Outcome
   whole = handOut sheet store reader request out
 
-  pub told-store : {r : ℕ} → Judged sheet store permissive r → (r ≡ 0 → ⊥) → whole ≡ refuse r 0 out
+  pub told-store : {r : ℕ} (judged : Judged sheet store permissive r) → (r ≡ 0 → ⊥) → whole ≡ refuse (judged .number) (judged .place) out
   unfolding handOut
   told-store judged some = judged-refusal judged some out _
 

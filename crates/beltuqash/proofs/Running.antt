@@ -11,7 +11,7 @@ use Rattle.basis.proofs.Tests.{both, and-of, is-false, split}
 use Rattle.levels.specs.Levels.{count, lowestOf}
 use Rattle.levels.specs.Lattice.{lattice}
 use Rattle.levels.proofs.Bounds.{lowest-is}
-use Rattle.sheet.specs.Verdict.{numberOf, passesOf}
+use Rattle.sheet.specs.Verdict.{numberOf, placeOf, passesOf}
 use Rattle.sheet.specs.Sections.{levelsOf, constantsOf, nodesOf}
 use Rattle.sheet.specs.Load.{fieldCount, lastOf, programOf, loadOf, Loaded}
 use Rattle.sheet.proofs.Verdicts.{passes-is}
@@ -65,7 +65,7 @@ module _ (mode fuel : ℕ) where
     told-10 e = rw e
 
     module _ (a : asked ≡ true) where
-      pub told-store : {r : ℕ} → Judged sheet store (modeOf mode) r → (r ≡ 0 → ⊥) → whole ≡ refuse r 0 out
+      pub told-store : {r : ℕ} (judged : Judged sheet store (modeOf mode) r) → (r ≡ 0 → ⊥) → whole ≡ refuse (judged .number) (judged .place) out
       unfolding run
       told-store judged some = rw a (judged-refusal judged some out _)
 
@@ -82,8 +82,8 @@ module _ (mode fuel : ℕ) where
     pub done-loaded : whole .answer .number ≡ 0 → Loaded sheet
     unfolding run
     done-loaded zero-is =
-        let (asked, rest) = passed asked 10 out _ (λ e. absurd (omega arith)) zero-is in
-        let (passes, end) = passed (passesOf (loadOf sheet)) (numberOf (loadOf sheet)) out _ (λ e. rw e) rest in
+        let (asked, rest) = passed asked 10 0 out _ (λ e. absurd (omega arith)) zero-is in
+        let (passes, end) = passed (passesOf (loadOf sheet)) (numberOf (loadOf sheet)) (placeOf (loadOf sheet)) out _ (λ e. rw e) rest in
         loaded sheet (passes-is _ passes)
 
 -- what is said of three lists is said of equal ones

@@ -17,7 +17,7 @@ ghost use Rattle.beltuqash.specs.Calls.{load, run, handOut};
 pub extern "C" fn beltuqash_load(sheet: &[u8]) -> u64
     ensures { λ r. ⌜ r ≡ wordOf (load (now (sheet .entry))) ⌝ }
 {
-    pack(sheet::verdict::number(sheet::load(sheet)), 0, 0)
+    checks::judge_sheet(sheet)
 }
 
 // Runs a sheet from a store in mode 0 (strict) or 1 (permissive), and writes the final store.
@@ -34,9 +34,9 @@ pub extern "C" fn beltuqash_run(
     if (1 < mode) | (1000000 < fuel) {
         return pack(numbers::MODE_OR_FUEL, 0, 0);
     }
-    let number = checks::judge(sheet, store, mode);
-    if number != numbers::DONE {
-        return pack(number, 0, 0);
+    let refusal = checks::judge(sheet, store, mode);
+    if refusal != 0 {
+        return refusal;
     }
     if out.len() < 2 + sections::fields(sheet).len() / 8 * 5 {
         return pack(numbers::OUT_SHORT, 0, 0);
@@ -55,9 +55,9 @@ pub extern "C" fn beltuqash_hand_out(
 ) -> u64
     ensures { λ r. ⌜ (r ≡ wordOf (handOut (now (sheet .entry)) (now (store .entry)) reader (now (request .entry)) (now (answer .entry)) .answer)) × (now (answer .exit) ≡ handOut (now (sheet .entry)) (now (store .entry)) reader (now (request .entry)) (now (answer .entry)) .out) ⌝ }
 {
-    let number = checks::judge(sheet, store, checks::PERMISSIVE);
-    if number != numbers::DONE {
-        return pack(number, 0, 0);
+    let refusal = checks::judge(sheet, store, checks::PERMISSIVE);
+    if refusal != 0 {
+        return refusal;
     }
     let known = (reader as usize) < sections::levels(sheet).len() / 2;
     let right = requests::right(request, sections::fields(sheet).len() / 8);

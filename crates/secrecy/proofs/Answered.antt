@@ -13,7 +13,7 @@ use Rattle.basis.specs.Bytes.{wordAt}
 use Rattle.basis.proofs.Tests.{None, both, split, first-most, none-first}
 use Rattle.levels.specs.Levels.{count}
 use Rattle.levels.specs.Lattice.{lattice}
-use Rattle.sheet.specs.Verdict.{numberOf, passesOf}
+use Rattle.sheet.specs.Verdict.{numberOf, placeOf, passesOf}
 use Rattle.sheet.specs.Sections.{levelsOf}
 use Rattle.sheet.specs.Load.{fieldCount, loadOf}
 use Rattle.rules.specs.Marks.{permissive}
@@ -54,11 +54,11 @@ module _ (sheet : List ℕ) (R : ℕ) (request store lent : List ℕ) where
   replied : handOut sheet store R request lent .answer .number ≡ 0 → Replied
   unfolding handOut
   replied e₀ =
-      let (passes, e₁) = passed (passesOf (loadOf sheet)) (numberOf (loadOf sheet)) lent _ (λ e. rw e) e₀ in
-      let (fits, e₂) = passed (storeFits (fieldCount sheet) store) 8 lent _ (λ e. absurd (omega arith)) e₁ in
-      let (marks, e₃) = passed (marksRight permissive (count (levelsOf sheet)) (fieldCount sheet) store) 9 lent _ (λ e. absurd (omega arith)) e₂ in
-      let (asked, e₄) = passed (ltb R (count (levelsOf sheet)) && requestRight (fieldCount sheet) request) 17 lent _ (λ e. absurd (omega arith)) e₃ in
-      let (room, e₅) = passed (leb (answerLength request) (length lent)) 11 lent _ (λ e. absurd (omega arith)) e₄ in
+      let (passes, e₁) = passed (passesOf (loadOf sheet)) (numberOf (loadOf sheet)) (placeOf (loadOf sheet)) lent _ (λ e. rw e) e₀ in
+      let (fits, e₂) = passed (storeFits (fieldCount sheet) store) 8 0 lent _ (λ e. absurd (omega arith)) e₁ in
+      let (marks, e₃) = passed (marksRight permissive (count (levelsOf sheet)) (fieldCount sheet) store) 9 0 lent _ (λ e. absurd (omega arith)) e₂ in
+      let (asked, e₄) = passed (ltb R (count (levelsOf sheet)) && requestRight (fieldCount sheet) request) 17 0 lent _ (λ e. absurd (omega arith)) e₃ in
+      let (room, e₅) = passed (leb (answerLength request) (length lent)) 11 0 lent _ (λ e. absurd (omega arith)) e₄ in
       let none = none-partial (past-18 e₅) in
       let is = goes-on sheet store R request lent (record { passes = passes; fits = fits; marks = marks }) asked room ∙ answered sheet store R request lent (past-18 e₅) in
       record {

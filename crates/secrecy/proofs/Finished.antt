@@ -12,7 +12,7 @@ use lib.Seq.{take-at}
 use Rattle.basis.proofs.Tests.{both, all-at, all-of}
 use Rattle.levels.specs.Levels.{count}
 use Rattle.levels.specs.Lattice.{lattice}
-use Rattle.sheet.specs.Verdict.{numberOf, passesOf}
+use Rattle.sheet.specs.Verdict.{numberOf, placeOf, passesOf}
 use Rattle.sheet.specs.Sections.{levelsOf}
 use Rattle.sheet.specs.Load.{fieldCount, programOf, loadOf}
 use Rattle.sheet.proofs.Verdicts.{passes-is}
@@ -60,11 +60,11 @@ module _ (sheet store : List ℕ) (mode fuel : ℕ) (out : List ℕ) where
   pub finished : run sheet store mode fuel out .answer .number ≡ 0 → Finished
   unfolding run runFrom
   finished e₀ =
-      let (asked, e₁) = passed (leb mode 1 && leb fuel 1000000) 10 out _ (λ e. absurd (omega arith)) e₀ in
-      let (passes, e₂) = passed (passesOf (loadOf sheet)) (numberOf (loadOf sheet)) out _ (λ e. rw e) e₁ in
-      let (fits, e₃) = passed (storeFits (fieldCount sheet) store) 8 out _ (λ e. absurd (omega arith)) e₂ in
-      let (marks, e₄) = passed (marksRight (modeOf mode) (count (levelsOf sheet)) (fieldCount sheet) store) 9 out _ (λ e. absurd (omega arith)) e₃ in
-      let (room, e₅) = passed (leb (storeLength (fieldCount sheet)) (length out)) 11 out _ (λ e. absurd (omega arith)) e₄ in
+      let (asked, e₁) = passed (leb mode 1 && leb fuel 1000000) 10 0 out _ (λ e. absurd (omega arith)) e₀ in
+      let (passes, e₂) = passed (passesOf (loadOf sheet)) (numberOf (loadOf sheet)) (placeOf (loadOf sheet)) out _ (λ e. rw e) e₁ in
+      let (fits, e₃) = passed (storeFits (fieldCount sheet) store) 8 0 out _ (λ e. absurd (omega arith)) e₂ in
+      let (marks, e₄) = passed (marksRight (modeOf mode) (count (levelsOf sheet)) (fieldCount sheet) store) 9 0 out _ (λ e. absurd (omega arith)) e₃ in
+      let (room, e₅) = passed (leb (storeLength (fieldCount sheet)) (length out)) 11 0 out _ (λ e. absurd (omega arith)) e₄ in
       number-done (record { asked = asked; taken = record { passes = passes; fits = fits; marks = marks }; room = room }) executed refl e₅
 
 module _ {sheet store : List ℕ} {mode fuel : ℕ} {out : List ℕ} where

@@ -17,7 +17,7 @@ use Rattle.sheet.specs.declared.nodes.Held.{Held}
 use Rattle.sheet.specs.declared.nodes.Held.the-variants.{Nothing, Constant, Field, Expression, Command}
 use Rattle.sheet.specs.declared.verdict.Fault.the-variants.{Unknown, Unused, Range, Sort}
 use Rattle.sheet.specs.declared.verdict.Verdict.the-variants.{Passes, Node}
-use Rattle.sheet.proofs.Verdicts.{then-next, then-first, both-pass, told-then, told-last}
+use Rattle.sheet.proofs.Verdicts.{then-next, then-first, both-pass, told-then, told-last, Placed, told-placed, then-placed}
 
 -- a kind and an operator that are known
 known-is : (kind op : ℕ) → known kind op ≡ true → (kind ≤ 9) × (kind ≡ 2 → op ≤ 9)
@@ -117,8 +117,8 @@ module _ (s : List ℕ) (fields constants : ℕ) where
   none-below = refl
 
   pub one-more : (n : ℕ) → verdictBelow s fields constants n ≡ Passes → nodeVerdict s fields constants n ≡ Passes → verdictBelow s fields constants (n + 1) ≡ Passes
-  unfolding verdictBelow
-  one-more n below here = rw (add-one n) (then-next _ _ below ∙ here)
+  unfolding verdictBelow _then_
+  one-more n below here = rw (add-one n) (rw (below, here))
 
   -- where the nodes below n pass and n does not, n is told, however many follow
   pub first-told : (count n : ℕ) → n < count → verdictBelow s fields constants n ≡ Passes → passesOf (nodeVerdict s fields constants n) ≡ false
@@ -140,6 +140,21 @@ module _ (s : List ℕ) (fields constants : ℕ) where
       let at-most : n ≤ count = omega arith in
       let p = both-pass _ _ e in
       ⊎-elim (λ same. ap (nodeVerdict s fields constants) same ∙ p .1) (λ lower. each-passes count (p .0) n lower) (eq-or-lt-of-le at-most)
+
+  -- the place of what is told is the number of one of the nodes
+  module _ (few : ℕ) (some : 0 < few) where
+    node-placed : (n : ℕ) → n < few → Placed few (nodeVerdict s fields constants n)
+    unfolding nodeVerdict
+    node-placed n h =
+        then-placed few _ _ (told-placed few (known (kindAt s n) (opAt s n)) (Node Unknown n) some h)
+        (λ _. then-placed few _ _ (told-placed few (operatorZero (kindAt s n) (opAt s n) && placesRight s fields constants n Unused) (Node Unused n) some h)
+        (λ _. then-placed few _ _ (told-placed few (placesRight s fields constants n Range) (Node Range n) some h)
+        (λ _. told-placed few (placesRight s fields constants n Sort) (Node Sort n) some h)))
+
+    pub nodes-placed : (count : ℕ) → count ≤ few → Placed few (verdictBelow s fields constants count)
+    unfolding verdictBelow
+    nodes-placed zero h = some
+    nodes-placed (suc n) h = then-placed few _ _ (nodes-placed n (omega arith)) (λ _. node-placed n h)
 
   -- ── well formed ───────────────────────────────────────────────────────────────────────────
 

@@ -1,8 +1,8 @@
 -- Load, check by check: what is told, and what a sheet has that passes.
-use Prim.Native.Nat.{ℕ, _-_, _≤_}
+use Prim.Native.Nat.{ℕ, _-_, _≤_, _<_}
 use native.Mathlib.Omega.{arith}
 use mathlib.Core.Path.{_≡_, refl, sym}
-use mathlib.Core.Bool.{true, false}
+use mathlib.Core.Bool.{true, false, _&&_}
 use mathlib.Core.List.{List}
 use borrow.Author.Tests.{leb-true, ltb-true, eqb-true}
 use lib.Dec.{leb, ltb, eqb}
@@ -17,9 +17,9 @@ use Rattle.sheet.specs.Uses.{usesBelow, usedOnce}
 use Rattle.sheet.specs.Depth.{cmdDepth}
 use Rattle.sheet.specs.Load.{fieldCount, constantCount, lastOf, programOf, loadOf, Loaded}
 use Rattle.sheet.specs.declared.verdict.Verdict.the-variants.{Passes, Levels, Name, Uses, Depth}
-use Rattle.sheet.proofs.Verdicts.{then-first, both-pass, told-right}
-use Rattle.sheet.proofs.Parts.{entries-length, sections-pass}
-use Rattle.sheet.proofs.Judged.{well-formed}
+use Rattle.sheet.proofs.Verdicts.{then-first, both-pass, told-right, Placed, told-placed, then-placed}
+use Rattle.sheet.proofs.Parts.{entries-length, sections-pass, sections-placed}
+use Rattle.sheet.proofs.Judged.{nodes-placed, well-formed}
 
 module _ (sheet : List ℕ) where
   pub layout-told : passesOf (sectionsVerdict sheet) ≡ false → sectionsVerdict sheet ≡ loadOf sheet
@@ -108,3 +108,15 @@ module _ (sheet : List ℕ) where
         command = ltb-true _ _ (uses .1);
         depth = leb-true _ _ (told-right _ Depth refl (e₆ .1));
       }
+
+  -- the place of what is told is a node's number
+  pub load-placed : Placed 1024 (loadOf sheet)
+  unfolding loadOf
+  load-placed =
+      let some : 0 < 1024 = omega arith in
+      then-placed 1024 _ _ (sections-placed 1024 some sheet)
+      (λ layout. then-placed 1024 _ _ (told-placed 1024 (right (levelsOf sheet)) Levels some some)
+      (λ _. then-placed 1024 _ _ (told-placed 1024 (namesRight (fieldsOf sheet)) Name some some)
+      (λ _. then-placed 1024 _ _ (nodes-placed (nodesOf sheet) (fieldCount sheet) (constantCount sheet) 1024 some (nodeCount (nodesOf sheet)) (omega (arith, nodes-length layout .1)))
+      (λ _. then-placed 1024 _ _ (told-placed 1024 (usedOnce (nodesOf sheet) && ltb 4 (kindAt (nodesOf sheet) (lastOf (nodesOf sheet)))) Uses some some)
+      (λ _. told-placed 1024 (leb (cmdDepth (programOf sheet)) 64) Depth some some)))))

@@ -3,16 +3,17 @@ use Prim.Native.Nat.{ℕ, _-_, _*_, _≤_, _<_, min}
 use native.Mathlib.Omega.{arith}
 use native.Mathlib.Nat.{mul-le-mul}
 use mathlib.Core.Path.{_≡_, refl, sym, ap, _∙_}
+use mathlib.Core.Bool.{_&&_}
 use mathlib.Core.List.{List}
 use borrow.Author.Tests.{leb-true, leb-false, eqb-true, le-leb, lt-leb}
-use lib.Dec.{leb}
+use lib.Dec.{leb, eqb}
 use lib.ListN.{length, take, drop, length-take, length-drop, drop-of-length-le}
 use lib.Seq.{take-all, take-nil, drop-length}
 use Rattle.basis.proofs.Tests.{both, split}
 use Rattle.sheet.specs.Verdict.{_then_}
-use Rattle.sheet.specs.Sections.{countOf, endOf, entriesOf, sectionVerdict, sectionsVerdict, endAt, Section, Sections}
+use Rattle.sheet.specs.Sections.{countOf, endOf, entriesOf, sectionVerdict, sectionsVerdict, fieldsAt, constantsAt, nodesAt, endAt, Section, Sections}
 use Rattle.sheet.specs.declared.verdict.Verdict.the-variants.{Passes, Length, Count}
-use Rattle.sheet.proofs.Verdicts.{both-pass, told-right}
+use Rattle.sheet.proofs.Verdicts.{both-pass, told-right, Placed, told-placed, then-placed}
 
 -- a count of two bytes and entries of at most 255 bytes make a short section
 pub few-bytes : (count size : ℕ) → count < 65536 → size < 256 → count * size < 16777216
@@ -116,3 +117,18 @@ sections-pass sheet e₁ =
       nodes = section-passes _ _ _ _ (e₅ .0);
       no-rest = omega arith;
     }
+
+-- 1 and 2 have place 0
+module _ (few : ℕ) (some : 0 < few) where
+  section-placed : (size least most : ℕ) (rest : List ℕ) → Placed few (sectionVerdict size least most rest)
+  unfolding sectionVerdict
+  section-placed size least most rest =
+      then-placed few _ _ (told-placed few (leb 2 (length rest)) Length some some)
+      (λ _. then-placed few _ _ (told-placed few (leb least (countOf rest) && leb (countOf rest) most) Count some some)
+      (λ _. told-placed few (leb (endOf size rest) (length rest)) Length some some))
+
+  pub sections-placed : (sheet : List ℕ) → Placed few (sectionsVerdict sheet)
+  unfolding sectionsVerdict
+  sections-placed sheet =
+      then-placed few _ _ (section-placed 2 1 16 (drop 0 sheet)) (λ _. then-placed few _ _ (section-placed 8 1 64 (drop (fieldsAt sheet) sheet)) (λ _. then-placed few _ _ (section-placed 4 0 256 (drop (constantsAt sheet) sheet))
+      (λ _. then-placed few _ _ (section-placed 8 1 1024 (drop (nodesAt sheet) sheet)) (λ _. told-placed few (eqb (length (drop (endAt sheet) sheet)) 0) Length some some))))

@@ -1,7 +1,9 @@
 -- Checks in order: what passes, and what is told first.
 use mathlib.Core.Path.{_≡_, refl, sym, ap, _∙_}
 use mathlib.Core.Bool.{Bool, true, false, cond, _&&_, true≢false}
-use Rattle.sheet.specs.Verdict.{passesOf, _then_, told}
+use Prim.Native.Nat.{ℕ, _<_}
+use Rattle.sheet.specs.Verdict.{placeOf, passesOf, _then_, told}
+use Rattle.sheet.specs.declared.verdict.Fault.the-variants.{Unknown, Unused, Range, Sort}
 use Rattle.sheet.specs.declared.verdict.Verdict.{Verdict}
 use Rattle.sheet.specs.declared.verdict.Verdict.the-variants.{Passes, Length, Count, Levels, Name, Node, Uses, Depth}
 
@@ -12,7 +14,10 @@ passes-is Length e = absurd (true≢false (sym e))
 passes-is Count e = absurd (true≢false (sym e))
 passes-is Levels e = absurd (true≢false (sym e))
 passes-is Name e = absurd (true≢false (sym e))
-passes-is (Node fault n) e = absurd (true≢false (sym e))
+passes-is (Node Unknown n) e = absurd (true≢false (sym e))
+passes-is (Node Unused n) e = absurd (true≢false (sym e))
+passes-is (Node Range n) e = absurd (true≢false (sym e))
+passes-is (Node Sort n) e = absurd (true≢false (sym e))
 passes-is Uses e = absurd (true≢false (sym e))
 passes-is Depth e = absurd (true≢false (sym e))
 
@@ -47,3 +52,20 @@ told-then false v w r = rw r r
 pub told-last : (right : Bool) (v : Verdict) → passesOf v ≡ false → passesOf (told right v) ≡ right
 told-last true v r = refl
 told-last false v r = r
+
+-- what is told has a place below a number, if each check has
+module _ (few : ℕ) where
+  abbrev pub Placed : Verdict → Type 0
+  Placed v = placeOf v < few
+
+  pub told-placed : (right : Bool) (v : Verdict) → 0 < few → Placed v → Placed (told right v)
+  told-placed true v some h = some
+  told-placed false v some h = h
+
+  pub then-placed : (v w : Verdict) → Placed v → (v ≡ Passes → Placed w) → Placed (v then w)
+  unfolding _then_
+  then-placed v w h next = go (passesOf v) refl
+    where
+      go : (b : Bool) → passesOf v ≡ b → Placed (cond b w v)
+      go true p = next (passes-is v p)
+      go false p = h

@@ -36,7 +36,7 @@ loadOf sheet =
     sectionsVerdict sheet  -- 1 and 2, in byte order
     then told (right (levelsOf sheet)) Levels  -- 3: levels not as above
     then told (namesRight (fieldsOf sheet)) Name  -- 4: a bad or repeated name
-    then nodesVerdict (nodesOf sheet) (fieldCount sheet) (constantCount sheet)  -- 5: a node's kind, operator, child number, child's sort, index or unused place
+    then nodesVerdict (nodesOf sheet) (fieldCount sheet) (constantCount sheet)  -- 19 to 22: what is wrong with a node
     then told (usedOnce (nodesOf sheet) && ltb 4 (kindAt (nodesOf sheet) (lastOf (nodesOf sheet)))) Uses  -- 6: a node not used once, or the last not a command
     then told (leb (cmdDepth (programOf sheet)) 64) Depth  -- 7: depth over 64
 

@@ -104,7 +104,8 @@ placeRight s fields constants n Sort held w = sortRight s n held w
 unfoldable pub placesRight : List ℕ → ℕ → ℕ → ℕ → Fault → Bool
 placesRight s fields constants n fault = all 3 (λ k. placeRight s fields constants n fault (heldIn (kindAt s n) k) (placeAt s n k))
 
--- 5: a node's kind, operator, child number, child's sort, index or unused place
+-- 19, 20, 21, 22, within a node in this order: unknown kind or operator; an unused place, or the operator byte in a kind without one, not 0; child or
+-- index number out of range or not lower; child of the wrong sort
 unfoldable pub nodeVerdict : List ℕ → ℕ → ℕ → ℕ → Verdict
 nodeVerdict s fields constants n =
     told (known (kindAt s n) (opAt s n)) (Node Unknown n)

@@ -1,7 +1,7 @@
 // What load answers. `specs/Verdict` gives each case its number in document 01's table.
 use basis::numbers;
 ghost use mathlib.Core.Path.{_≡_};
-ghost use Rattle.sheet.specs.Verdict.{numberOf, passesOf, _then_};
+ghost use Rattle.sheet.specs.Verdict.{faultNumber, numberOf, placeOf, passesOf, _then_};
 
 pub enum Verdict {
     Passes,
@@ -33,6 +33,18 @@ pub enum Fault {
     Sort,
 }
 
+// The number of a node's fault.
+fn fault_number(fault: Fault) -> u8
+    ensures { λ r. ⌜ r ≡ faultNumber fault ⌝ }
+{
+    match fault {
+        Fault::Unknown => numbers::NODE_UNKNOWN,
+        Fault::Unused => numbers::NODE_UNUSED,
+        Fault::Range => numbers::NODE_RANGE,
+        Fault::Sort => numbers::NODE_SORT,
+    }
+}
+
 // The number of a verdict in document 01's table.
 pub fn number(v: Verdict) -> u8
     ensures { λ r. ⌜ r ≡ numberOf v ⌝ }
@@ -43,9 +55,25 @@ pub fn number(v: Verdict) -> u8
         Verdict::Count => numbers::COUNT_OUTSIDE,
         Verdict::Levels => numbers::LEVELS_WRONG,
         Verdict::Name => numbers::NAME_WRONG,
-        Verdict::Node(_, _) => numbers::NODE_WRONG,
+        Verdict::Node(fault, _) => fault_number(fault),
         Verdict::Uses => numbers::NOT_USED_ONCE,
         Verdict::Depth => numbers::TOO_DEEP,
+    }
+}
+
+// Its place: that of a node's fault is the node's number.
+pub fn place(v: Verdict) -> usize
+    ensures { λ r. ⌜ r ≡ placeOf v ⌝ }
+{
+    match v {
+        Verdict::Passes => 0,
+        Verdict::Length => 0,
+        Verdict::Count => 0,
+        Verdict::Levels => 0,
+        Verdict::Name => 0,
+        Verdict::Node(_, n) => n,
+        Verdict::Uses => 0,
+        Verdict::Depth => 0,
     }
 }
 

@@ -1,20 +1,17 @@
 //! What is compared of hand-out.
 
 use super::calls::Compared;
-use super::hex;
-use crate::model::{hand_out, number, HandOut, Outcome};
+use super::{hex, Times};
+use crate::model::{hand_out, HandOut, Outcome};
 use std::fmt;
 
-/// How often each number came back; hand-out gives those of `NUMBERS`.
-pub type Histogram = [u64; number::PARTIAL_ASKED as usize + 1];
-
-/// Hand-out gives 0, 1 to 9, 17, 11 and 18.
-pub const NUMBERS: [usize; 13] = [0, 1, 2, 3, 4, 5, 6, 7, 8, 9, 11, 17, 18];
+/// Hand-out gives 0, load's, 8, 9, 17, 11 and 18.
+pub const NUMBERS: [usize; 16] = [0, 1, 2, 3, 4, 19, 20, 21, 22, 6, 7, 8, 9, 17, 11, 18];
 
 impl Compared for HandOut {
     const NAME: &'static str = "hand-out";
 
-    type Histogram = Histogram;
+    type Histogram = Times;
 
     fn outcome(&self) -> Outcome {
         hand_out(self)
@@ -28,7 +25,7 @@ impl Compared for HandOut {
         &self.output
     }
 
-    fn count(&self, histogram: &mut Histogram, number: u8) {
+    fn count(&self, histogram: &mut Times, number: u8) {
         histogram[usize::from(number)] += 1;
     }
 

@@ -7,7 +7,11 @@ pub mod hand_out;
 pub mod load;
 pub mod run;
 
+use crate::model::number;
 use std::fmt;
+
+/// How often each number came back; a call gives those of its `NUMBERS`.
+pub type Times = [u64; number::NODE_SORT as usize + 1];
 
 /// Writes a line of bytes in hex under their name.
 pub fn hex(out: &mut fmt::Formatter, name: &str, bytes: &[u8]) -> fmt::Result {

@@ -1,13 +1,16 @@
 //! What the generator promises: valid sheets are taken, each damage alone brings
-//! about its number, and the limits and variety that the document names come up.
+//! about its number, faulty nodes come up with others and with several faults, and so
+//! do the limits and variety that the document names.
 
 use super::damage::{with_damages, Damage, GROUPS};
-use super::{garbage, valid, write};
-use crate::model::nodes::KINDS;
+use super::{case, garbage, valid, write};
+use crate::model::nodes::{KINDS, LAWS};
+use crate::model::number::OF_NODES;
 use crate::model::sheet::Sheet;
 use crate::model::tree::depths;
 use crate::model::{load, number};
 use crate::random::Random;
+use std::collections::{BTreeMap, BTreeSet};
 
 fn valid_sheets(count: u64) -> impl Iterator<Item = Sheet> {
     (0..count).map(|index| valid::sheet(&mut Random::of_sheet(11, index)))
@@ -38,6 +41,56 @@ fn brings_its_number(damage: &Damage, index: u64) -> bool {
     let number = load(&case.bytes).number;
     assert_eq!(Some(number), case.expected, "{} at {index}", damage.name);
     case.expected == damage.number
+}
+
+/// The numbers that a node has earned, each law by itself.
+fn faults(sheet: &Sheet, number: usize) -> Vec<u8> {
+    let broken = LAWS.iter().filter(|law| !(law.holds)(sheet, number));
+    broken.map(|law| law.number).collect()
+}
+
+/// Among these sheets, every two faults come up so many times in the node that is
+/// told, and, in either order, in that node and in a higher one.
+pub fn faults_come_up_together(sheets: impl Iterator<Item = Vec<u8>>, least: u64) {
+    let mut in_one_node = Times::new();
+    let mut in_several = Times::new();
+    for bytes in sheets {
+        let told = load(&bytes);
+        if !OF_NODES.contains(&told.number) {
+            continue;
+        }
+        let sheet = Sheet::read(&bytes).expect("a sheet with nodes");
+        let node = usize::from(told.place);
+        count(&mut in_one_node, told.number, faults(&sheet, node));
+        let higher = (node + 1..sheet.nodes.len()).flat_map(|number| faults(&sheet, number));
+        count(&mut in_several, told.number, higher.collect());
+    }
+    for (at, &first) in OF_NODES.iter().enumerate() {
+        for &second in OF_NODES {
+            let times = |times: &Times| times.get(&(first, second)).copied().unwrap_or(0);
+            assert!(times(&in_several) >= least, "{first} below {second}");
+            let later = OF_NODES[at + 1..].contains(&second);
+            assert!(
+                !later || times(&in_one_node) >= least,
+                "{first} with {second}"
+            );
+        }
+    }
+}
+
+/// How many sheets have these two numbers, the first one told.
+type Times = BTreeMap<(u8, u8), u64>;
+
+/// Counts a sheet once for each of the others.
+fn count(times: &mut Times, told: u8, others: Vec<u8>) {
+    for other in BTreeSet::from_iter(others) {
+        *times.entry((told, other)).or_default() += 1;
+    }
+}
+
+#[test]
+fn faulty_nodes_come_up_together() {
+    faults_come_up_together((0..20_000).map(|index| case(14, index).bytes), 10);
 }
 
 #[test]

@@ -1,8 +1,11 @@
 //! What comes back from a call: a number of the document's table, a place and
 //! the units, and how the three stand in the C archive's answer word.
 
-/// The numbers of the table "What comes back, in order of checks".
+/// The numbers of the table "What comes back, in order of checks", with those that
+/// document 02's request One puts in the position of 5, which is never given.
 pub mod number {
+    use std::ops::RangeInclusive;
+
     /// Success.
     pub const DONE: u8 = 0;
     /// Row 1: sheet ends too soon or has bytes left.
@@ -13,8 +16,6 @@ pub mod number {
     pub const LEVELS: u8 = 3;
     /// Row 4: a bad or repeated name.
     pub const NAME: u8 = 4;
-    /// Row 5: a node's kind, operator, child number, child's sort, index or unused place.
-    pub const NODE: u8 = 5;
     /// Row 6: a node not used once, or the last not a command.
     pub const USE: u8 = 6;
     /// Row 7: depth over 64.
@@ -41,6 +42,20 @@ pub mod number {
     pub const REQUEST: u8 = 17;
     /// Row 18: hand-out: partial field asked.
     pub const PARTIAL_ASKED: u8 = 18;
+    /// Row 19: unknown kind or operator.
+    pub const NODE_UNKNOWN: u8 = 19;
+    /// Row 20: unused place, or operator byte in a kind without one, not 0.
+    pub const NODE_UNUSED: u8 = 20;
+    /// Row 21: child or index number out of range or not lower.
+    pub const NODE_RANGE: u8 = 21;
+    /// Row 22: child of the wrong sort.
+    pub const NODE_SORT: u8 = 22;
+
+    /// What is wrong with a node, in the order within a node.
+    pub const OF_NODES: &[u8] = &[NODE_UNKNOWN, NODE_UNUSED, NODE_RANGE, NODE_SORT];
+
+    /// Rows 12 to 16 come as the run meets them.
+    pub const STOPS: RangeInclusive<u8> = FUEL_USED_UP..=PARTIAL_TEST;
 }
 
 /// The answer of a call.
@@ -58,6 +73,14 @@ impl Answer {
             number,
             place: 0,
             units: 0,
+        }
+    }
+
+    /// The answer with this number whose place is this node's number; its units are 0.
+    pub fn at_node(number: u8, node: usize) -> Answer {
+        Answer {
+            place: u16::try_from(node).expect("a node's number has two bytes"),
+            ..Answer::plain(number)
         }
     }
 

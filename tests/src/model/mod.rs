@@ -1,5 +1,5 @@
-//! The model of the shop's calls, written from document 01 alone and in its
-//! words. A sheet is read into a typed value, which the checks then judge in
+//! The model of the shop's calls, written from documents 01 and 02 alone and in
+//! their words. A sheet is read into a typed value, which the checks then judge in
 //! the order of the table. It aims at being plain, not at being fast.
 
 pub mod agree;
@@ -26,55 +26,54 @@ pub use hand_out::{hand_out, HandOut};
 pub use run::{run, Call, Outcome};
 pub use sheet::Sheet;
 
-/// A row of the table that judges the typed sheet.
+/// A check of the typed sheet.
 pub struct Check {
-    pub number: u8,
-    pub passes: fn(&Sheet) -> bool,
+    /// What it refuses with.
+    pub numbers: &'static [u8],
+    pub refusal: fn(&Sheet) -> Option<Answer>,
 }
 
-/// Rows 3 to 7, in the order of checks.
+/// Rows 3, 4, 19 to 22, 6 and 7, in the order of checks.
 pub const CHECKS: [Check; 5] = [
     Check {
-        number: number::LEVELS,
-        passes: levels::levels_are_right,
+        numbers: &[number::LEVELS],
+        refusal: |sheet| unless(levels::levels_are_right(sheet), number::LEVELS),
     },
     Check {
-        number: number::NAME,
-        passes: names::names_are_right,
+        numbers: &[number::NAME],
+        refusal: |sheet| unless(names::names_are_right(sheet), number::NAME),
     },
     Check {
-        number: number::NODE,
-        passes: nodes::nodes_are_right,
+        numbers: number::OF_NODES,
+        refusal: nodes::first_fault,
     },
     Check {
-        number: number::USE,
-        passes: tree::uses_are_right,
+        numbers: &[number::USE],
+        refusal: |sheet| unless(tree::uses_are_right(sheet), number::USE),
     },
     Check {
-        number: number::DEPTH,
-        passes: tree::depth_is_right,
+        numbers: &[number::DEPTH],
+        refusal: |sheet| unless(tree::depth_is_right(sheet), number::DEPTH),
     },
 ];
+
+fn unless(right: bool, number: u8) -> Option<Answer> {
+    (!right).then(|| Answer::plain(number))
+}
 
 /// Load judges a sheet.
 pub fn load(bytes: &[u8]) -> Answer {
     match judged(bytes) {
         Ok(_) => Answer::plain(number::DONE),
-        Err(number) => Answer::plain(number),
+        Err(refusal) => refusal,
     }
 }
 
-/// The sheet that load takes, or the number it is refused with.
-pub fn judged(bytes: &[u8]) -> Result<Sheet, u8> {
-    let sheet = Sheet::read(bytes)?;
-    match first_failing(&sheet) {
+/// The sheet that load takes, or how it is refused.
+pub fn judged(bytes: &[u8]) -> Result<Sheet, Answer> {
+    let sheet = Sheet::read(bytes).map_err(Answer::plain)?;
+    match CHECKS.iter().find_map(|check| (check.refusal)(&sheet)) {
         None => Ok(sheet),
-        Some(number) => Err(number),
+        Some(refusal) => Err(refusal),
     }
-}
-
-/// The number of the first check that the sheet does not pass.
-pub fn first_failing(sheet: &Sheet) -> Option<u8> {
-    let failing = CHECKS.iter().find(|check| !(check.passes)(sheet));
-    failing.map(|check| check.number)
 }

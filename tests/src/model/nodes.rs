@@ -1,6 +1,8 @@
-//! The kinds of nodes and row 5 of the table. What a kind's places a, b and c
-//! hold is written down once, in `KINDS`; each check goes by that table.
+//! The kinds of nodes and rows 19 to 22 of the table. What a kind's places a, b and
+//! c hold is written down once, in `KINDS`; each check goes by that table.
 
+use super::answer::number::{NODE_RANGE, NODE_SORT, NODE_UNKNOWN, NODE_UNUSED};
+use super::answer::Answer;
 use super::sheet::{Node, Sheet};
 
 /// Kinds 0 to 4 are expressions, kinds 5 to 9 commands.
@@ -74,6 +76,11 @@ const fn command(name: &'static str, places: [Place; 3]) -> Kind {
 }
 
 impl Kind {
+    /// Whether the operator byte of a node of this kind is an operator.
+    pub fn has_operators(&self) -> bool {
+        self.operators > 1
+    }
+
     /// How many children a node of this kind has.
     pub fn children(&self) -> usize {
         let is_child = |place: &&Place| matches!(place, Place::Child(_));
@@ -107,48 +114,76 @@ impl Node {
     }
 }
 
-/// A law by its name, for the node of this number.
-pub type Law = (&'static str, fn(&Sheet, usize) -> bool);
+/// What is asked of each node.
+#[derive(Clone, Copy)]
+pub struct Law {
+    pub name: &'static str,
+    /// The number of a node that breaks it.
+    pub number: u8,
+    pub holds: fn(&Sheet, usize) -> bool,
+}
 
-/// What row 5 asks of each node.
-pub const LAWS: [Law; 6] = [
-    ("kind", kind_is_known),
-    ("operator", operator_is_right),
-    ("child number", child_numbers_are_lower),
-    ("child's sort", children_have_their_sort),
-    ("index", indexes_are_in_range),
-    ("unused place", unused_places_are_zero),
+/// The laws in the order in which a node is looked at.
+pub const LAWS: [Law; 7] = [
+    law("kind", NODE_UNKNOWN, kind_is_known),
+    law("operator", NODE_UNKNOWN, operator_is_known),
+    law("unused place", NODE_UNUSED, unused_places_are_zero),
+    law("operator byte", NODE_UNUSED, other_operator_bytes_are_zero),
+    law("child number", NODE_RANGE, child_numbers_are_lower),
+    law("index", NODE_RANGE, indexes_are_in_range),
+    law("child's sort", NODE_SORT, children_have_their_sort),
 ];
 
-/// Row 5: a node's kind, operator, child number, child's sort, index or unused place.
-pub fn nodes_are_right(sheet: &Sheet) -> bool {
-    (0..sheet.nodes.len()).all(|number| LAWS.iter().all(|(_, law)| law(sheet, number)))
+const fn law(name: &'static str, number: u8, holds: fn(&Sheet, usize) -> bool) -> Law {
+    Law {
+        name,
+        number,
+        holds,
+    }
+}
+
+/// Rows 19 to 22: the lowest node first, within a node in this order; the place is
+/// the node's number.
+pub fn first_fault(sheet: &Sheet) -> Option<Answer> {
+    first_fault_by(&LAWS, sheet)
+}
+
+/// The lowest node that breaks one of these laws, told by the first that it breaks.
+pub fn first_fault_by(laws: &[Law], sheet: &Sheet) -> Option<Answer> {
+    (0..sheet.nodes.len()).find_map(|number| fault_of(laws, sheet, number))
+}
+
+/// What is told of a node: the first of these laws that it breaks.
+pub fn fault_of(laws: &[Law], sheet: &Sheet, number: usize) -> Option<Answer> {
+    let broken = laws.iter().find(|law| !(law.holds)(sheet, number));
+    broken.map(|law| Answer::at_node(law.number, number))
 }
 
 fn kind_is_known(sheet: &Sheet, number: usize) -> bool {
     sheet.nodes[number].known_kind().is_some()
 }
 
-/// An operator's byte is 0 to 9; the operator byte is 0 in other kinds.
-fn operator_is_right(sheet: &Sheet, number: usize) -> bool {
+fn operator_is_known(sheet: &Sheet, number: usize) -> bool {
     let node = &sheet.nodes[number];
     node.known_kind()
-        .is_none_or(|kind| node.operator < kind.operators)
+        .is_none_or(|kind| !kind.has_operators() || node.operator < kind.operators)
+}
+
+fn unused_places_are_zero(sheet: &Sheet, number: usize) -> bool {
+    let mut held = sheet.nodes[number].held();
+    held.all(|(place, held)| place != Place::Unused || held == 0)
+}
+
+/// The operator byte is 0 in other kinds.
+fn other_operator_bytes_are_zero(sheet: &Sheet, number: usize) -> bool {
+    let node = &sheet.nodes[number];
+    node.known_kind()
+        .is_none_or(|kind| kind.has_operators() || node.operator == 0)
 }
 
 /// A child's number is lower than its parent's.
 fn child_numbers_are_lower(sheet: &Sheet, number: usize) -> bool {
     sheet.nodes[number].children().all(|child| child < number)
-}
-
-fn children_have_their_sort(sheet: &Sheet, number: usize) -> bool {
-    sheet.nodes[number].held().all(|(place, held)| match place {
-        Place::Child(sort) => {
-            let child = sheet.nodes.get(usize::from(held));
-            child.and_then(Node::sort) == Some(sort)
-        }
-        _ => true,
-    })
 }
 
 fn indexes_are_in_range(sheet: &Sheet, number: usize) -> bool {
@@ -159,7 +194,13 @@ fn indexes_are_in_range(sheet: &Sheet, number: usize) -> bool {
     })
 }
 
-fn unused_places_are_zero(sheet: &Sheet, number: usize) -> bool {
-    let mut held = sheet.nodes[number].held();
-    held.all(|(place, held)| place != Place::Unused || held == 0)
+/// A child that is not lower has no sort.
+fn children_have_their_sort(sheet: &Sheet, number: usize) -> bool {
+    let lower = &sheet.nodes[..number];
+    sheet.nodes[number].held().all(|(place, held)| match place {
+        Place::Child(sort) => lower
+            .get(usize::from(held))
+            .is_none_or(|child| child.sort() == Some(sort)),
+        _ => true,
+    })
 }

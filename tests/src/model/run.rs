@@ -55,7 +55,7 @@ pub fn run(call: &Call) -> Outcome {
 pub fn run_by(rules: &Rules, call: &Call) -> Outcome {
     match Start::checked(rules, call) {
         Ok(start) => start.run(rules).outcome(),
-        Err(number) => Outcome::refused(Answer::plain(number)),
+        Err(refusal) => Outcome::refused(refusal),
     }
 }
 
@@ -68,10 +68,10 @@ pub struct Start {
 }
 
 impl Start {
-    /// Rows 10, 1 to 7, 8, 9 and 11, in the order of checks.
-    pub fn checked(rules: &Rules, call: &Call) -> Result<Start, u8> {
+    /// Row 10, load's rows, 8, 9 and 11, in the order of checks.
+    pub fn checked(rules: &Rules, call: &Call) -> Result<Start, Answer> {
         if !(rules.mode_and_fuel_are_right)(call.mode, call.fuel) {
-            return Err(MODE_OR_FUEL);
+            return Err(Answer::plain(MODE_OR_FUEL));
         }
         let mode = match call.mode {
             0 => Mode::Strict,
@@ -79,13 +79,13 @@ impl Start {
         };
         let sheet = judged(&call.sheet)?;
         if !(rules.store_fits)(&sheet, &call.store) {
-            return Err(STORE);
+            return Err(Answer::plain(STORE));
         }
         if !entries(&call.store).all(|(mark, _)| (rules.mark_is_right)(&sheet, mode, mark)) {
-            return Err(MARK);
+            return Err(Answer::plain(MARK));
         }
         if !(rules.output_is_long_enough)(&sheet, call.output.len()) {
-            return Err(OUTPUT);
+            return Err(Answer::plain(OUTPUT));
         }
         Ok(Start {
             store: Store::read(&sheet, &call.store),
@@ -132,9 +132,8 @@ impl End {
 
     fn answer(&self, number: u8, place: usize) -> Answer {
         Answer {
-            number,
-            place: u16::try_from(place).expect("a node's number has two bytes"),
             units: self.units,
+            ..Answer::at_node(number, place)
         }
     }
 }

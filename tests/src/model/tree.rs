@@ -1,5 +1,5 @@
 //! The tree that the nodes form, and rows 6 and 7 of the table. Both rows are
-//! asked only once row 5 holds; depth has a meaning only once row 6 holds.
+//! asked only of right nodes; depth has a meaning only once row 6 holds.
 
 use super::nodes::Sort;
 use super::sheet::Sheet;

@@ -1,4 +1,4 @@
-//! Nodes that row 5 has passed, as the expressions and commands that they are.
+//! Nodes that are right, as the expressions and commands that they are.
 //! Children are told by their node numbers.
 
 use super::sheet::Node;

@@ -6,6 +6,7 @@ use crate::compare::effect::Effect;
 use crate::model::number::*;
 use crate::model::store::ENTRY_BYTES;
 use crate::model::{load, Answer, Outcome};
+use crate::wrong::judges::faults::TOLD;
 use std::ops::Range;
 
 /// One with a fault.
@@ -185,17 +186,34 @@ pub fn about_success<C: Compared>() -> Vec<Wrong<C>> {
     wrong.map(Wrong::answering).into()
 }
 
+/// Wrong about what is told of a faulty node.
+pub fn about_nodes<C: Compared>() -> Vec<Wrong<C>> {
+    let answering = |&(name, wrong): &Named<fn(Answer) -> Answer>| {
+        Wrong::new(name, move |call: &C| {
+            let mut right = call.outcome();
+            if OF_NODES.contains(&right.answer.number) {
+                right.answer = wrong(right.answer);
+            }
+            right
+        })
+    };
+    TOLD.iter().map(answering).collect()
+}
+
 /// A row, and whether a call fails it, other rows aside.
 pub type Row<C> = (u8, fn(&C) -> bool);
 
 /// Load's rows in the order of checks.
-pub fn rows_of_load<C: Compared>() -> [Row<C>; 7] {
+pub fn rows_of_load<C: Compared>() -> [Row<C>; 10] {
     [
         (LENGTH, loads_as::<C, LENGTH>),
         (COUNT, loads_as::<C, COUNT>),
         (LEVELS, loads_as::<C, LEVELS>),
         (NAME, loads_as::<C, NAME>),
-        (NODE, loads_as::<C, NODE>),
+        (NODE_UNKNOWN, loads_as::<C, NODE_UNKNOWN>),
+        (NODE_UNUSED, loads_as::<C, NODE_UNUSED>),
+        (NODE_RANGE, loads_as::<C, NODE_RANGE>),
+        (NODE_SORT, loads_as::<C, NODE_SORT>),
         (USE, loads_as::<C, USE>),
         (DEPTH, loads_as::<C, DEPTH>),
     ]
@@ -211,7 +229,7 @@ pub fn rows_exchanged<C: Compared>(rows: &[Row<C>]) -> Vec<Wrong<C>> {
     let mut wrong = Vec::new();
     for (at, &(late, fails)) in rows.iter().enumerate() {
         for &(early, _) in &rows[..at] {
-            let of_load = early <= DEPTH && late <= DEPTH;
+            let of_load = is_of_load(early) && is_of_load(late);
             let unread = early == LENGTH || early == COUNT;
             if !of_load && !unread {
                 wrong.push(told(late, early, fails));
@@ -221,10 +239,15 @@ pub fn rows_exchanged<C: Compared>(rows: &[Row<C>]) -> Vec<Wrong<C>> {
     wrong
 }
 
+fn is_of_load(number: u8) -> bool {
+    number <= DEPTH || OF_NODES.contains(&number)
+}
+
 fn told<C: Compared>(late: u8, early: u8, fails: fn(&C) -> bool) -> Wrong<C> {
     Wrong::new(format!("{late} before {early}"), move |call: &C| {
         let right = call.outcome();
         match right.answer.number == early && fails(call) {
+            true if is_of_load(late) => Outcome::refused(load(call.sheet())),
             true => Outcome::refused(Answer::plain(late)),
             false => right,
         }

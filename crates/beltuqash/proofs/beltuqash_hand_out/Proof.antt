@@ -63,14 +63,14 @@ room c = omega (arith, c .if3 .left, c .before .count .ensures .0)
 
 returns : tie.Need-returns
 returns c =
-    let judge = c .before .before in
-    has-same (told-store _ _ (start-of judge .args .reader) _ _ (judged judge) (c .before .if1 .taken)) (c .pack .ensures, refl)
+    let judge = c .before in
+    has-same (told-store _ _ (start-of judge .args .reader) _ _ (judged judge) (c .if1 .taken)) (judged judge .word, refl)
 
 returns-2 : tie.Need-returns-2
 returns-2 c =
     let two = c .before in
     let asked = two .before in
-    has-same (told-17 _ _ (start₂ asked .args .reader) _ _ (taken (taken-of asked)) (right-is asked ∙ not-true _ (two .if2 .taken))) (c .pack2 .ensures, refl)
+    has-same (told-17 _ _ (start₂ asked .args .reader) _ _ (taken (taken-of asked)) (right-is asked ∙ not-true _ (two .if2 .taken))) (c .pack .ensures, refl)
 
 count-requires : tie.Need-count-requires
 count-requires c κs =
@@ -83,7 +83,7 @@ returns-3 c =
     let two = counted .before in
     let a = start₂ (two .before) .args in
     let short = lt-leb (answerLength (now (a .request))) (length (now (a .answer))) (omega (arith, c .before .if3 .taken, counted .count .ensures .0)) in
-    has-same (told-11 _ _ (a .reader) _ _ (taken (taken-of (two .before))) (right two) short) (c .pack3 .ensures, refl)
+    has-same (told-11 _ _ (a .reader) _ _ (taken (taken-of (two .before))) (right two) short) (c .pack2 .ensures, refl)
 
 hand-over-requires : tie.Need-hand-over-requires
 hand-over-requires c κs =
@@ -112,7 +112,6 @@ pub beltuqash-hand-out-spec : {M : Type 1} → statement M
 beltuqash-hand-out-spec =
     tie.close
     (tie.spec
-    (λ c κs. search needs)
     (λ c κs. search needs)
     returns
     (λ c κs. search needs)

@@ -46,9 +46,10 @@ returns c =
 
 returns-2 : tie.Need-returns-2
 returns-2 c =
-    let judge = c .before .before in
+    let judge = c .before in
     let a = start-of (judge .before) .args in
-    has-same (told-store (a .mode) (a .fuel) _ _ _ (asked (judge .before)) (judge .judge .ensures) (c .before .if2 .taken)) (c .pack2 .ensures, refl)
+    let judged = judge .judge .ensures in
+    has-same (told-store (a .mode) (a .fuel) _ _ _ (asked (judge .before)) judged (c .if2 .taken)) (judged .word, refl)
 
 returns-3 : tie.Need-returns-3
 returns-3 c =
@@ -56,7 +57,7 @@ returns-3 c =
     let two = fields .before in
     let a = start₂ two .args in
     let short = lt-leb (storeLength (fieldCount (now (a .sheet)))) (length (now (a .out))) (omega (arith, c .before .if3 .taken, count-is fields)) in
-    has-same (told-11 (a .mode) (a .fuel) _ _ _ (asked (two .before .before)) (taken two) short) (c .pack3 .ensures, refl)
+    has-same (told-11 (a .mode) (a .fuel) _ _ _ (asked (two .before .before)) (taken two) short) (c .pack2 .ensures, refl)
 
 run-from-requires : tie.Need-run-from-requires
 run-from-requires c κs =
@@ -86,7 +87,6 @@ beltuqash-run-spec =
     (tie.spec
     (λ c κs. search needs)
     returns
-    (λ c κs. search needs)
     (λ c κs. search needs)
     returns-2
     (λ c κs. search needs)

@@ -8,7 +8,7 @@ mod self_check;
 
 use arguments::{Arguments, Many, Only, USAGE};
 use beltuqash_tests::compare::calls::compare;
-use beltuqash_tests::compare::{hand_out, load, run};
+use beltuqash_tests::compare::{hand_out, load, run, Times};
 use beltuqash_tests::model::number::DONE;
 use beltuqash_tests::search::{search, Counts, Shop};
 use std::env;
@@ -66,14 +66,16 @@ fn all_pass(seed: u64, many: Many) -> bool {
 }
 
 fn load_passes(seed: u64, sheets: u64) -> bool {
-    compare_load(seed, 0..sheets).is_some_and(|times| often_enough(&times))
+    let times = compare_load(seed, 0..sheets);
+    times.is_some_and(|times| often_enough(&load::NUMBERS.map(|number| times[number])))
 }
 
 /// Every number, and success in both modes.
 fn run_passes(seed: u64, calls: u64) -> bool {
     compare_run(seed, 0..calls).is_some_and(|times| {
         let done = usize::from(DONE);
-        often_enough(&times.all) && often_enough(&[times.strict[done], times.permissive[done]])
+        often_enough(&run::NUMBERS.map(|number| times.all[number]))
+            && often_enough(&[times.strict[done], times.permissive[done]])
     })
 }
 
@@ -109,11 +111,11 @@ fn all_passed(inputs: u64, without: &str, start: Instant) {
 }
 
 /// Compares the loads; prints the difference, or how often each number came.
-fn compare_load(seed: u64, indexes: Range<u64>) -> Option<load::Histogram> {
+fn compare_load(seed: u64, indexes: Range<u64>) -> Option<Times> {
     let start = Instant::now();
     let histogram = unless_found(load::compare(seed, indexes, &archive::load))?;
-    for (number, times) in histogram.iter().enumerate() {
-        println!("load, number {number}: {times:>8}");
+    for number in load::NUMBERS {
+        println!("load, number {number:>2}: {:>8}", histogram[number]);
     }
     let sheets = histogram.iter().sum();
     all_passed(sheets, "sheets without a difference", start);
@@ -124,7 +126,8 @@ fn compare_load(seed: u64, indexes: Range<u64>) -> Option<load::Histogram> {
 fn compare_run(seed: u64, indexes: Range<u64>) -> Option<run::Histogram> {
     let start = Instant::now();
     let histogram = unless_found(compare(seed, indexes, &archive::run))?;
-    for (number, times) in histogram.all.iter().enumerate() {
+    for number in run::NUMBERS {
+        let times = histogram.all[number];
         let strict = histogram.strict[number];
         let permissive = histogram.permissive[number];
         println!(
@@ -137,7 +140,7 @@ fn compare_run(seed: u64, indexes: Range<u64>) -> Option<run::Histogram> {
 }
 
 /// The same for the hand-outs.
-fn compare_hand_out(seed: u64, indexes: Range<u64>) -> Option<hand_out::Histogram> {
+fn compare_hand_out(seed: u64, indexes: Range<u64>) -> Option<Times> {
     let start = Instant::now();
     let histogram = unless_found(compare(seed, indexes, &archive::hand_out))?;
     for number in hand_out::NUMBERS {

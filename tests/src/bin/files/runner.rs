@@ -3,7 +3,7 @@
 
 use crate::parts::{name, node, operator, plain, with_nodes, SKIP};
 use crate::samples::{flag, name_twice, runners, sealed_flag};
-use crate::trials::{chain, nested, with_rows};
+use crate::trials::{chain, last_unused, nested, with_rows};
 use beltuqash_tests::by_hand::{store, DIVIDE, LESS, PLUS, REMAINDER};
 use beltuqash_tests::generate::write::bytes;
 use beltuqash_tests::model::levels::Levels;
@@ -232,7 +232,7 @@ fn cut_files() -> Vec<Case> {
     ]
 }
 
-/// Numbers 1 to 7, with a store that would fit.
+/// Load's numbers, with a store that would fit.
 fn sheets() -> Vec<Case> {
     wrong_sheets()
         .into_iter()
@@ -271,9 +271,38 @@ fn wrong_sheets() -> Vec<(&'static str, Vec<u8>, &'static str)> {
             "refused 4 0 0\n",
         ),
         (
-            "sheet-unused-place-5",
+            "sheet-unknown-operator-19",
+            bytes(&by_constant(10, 1)),
+            "refused 19 2 0\n",
+        ),
+        (
+            "sheet-unused-place-20",
             bytes(&with_nodes(vec![node(5, [0, 0, 1])])),
-            "refused 5 0 0\n",
+            "refused 20 0 0\n",
+        ),
+        (
+            "sheet-its-own-child-21",
+            bytes(&with_nodes(vec![SKIP, SKIP, node(7, [1, 2, 0])])),
+            "refused 21 2 0\n",
+        ),
+        (
+            "sheet-wrong-sort-22",
+            bytes(&with_nodes(vec![SKIP, node(6, [0, 0, 0])])),
+            "refused 22 1 0\n",
+        ),
+        (
+            "sheet-last-of-1024-nodes-20",
+            bytes(&with_nodes(last_unused())),
+            "refused 20 1023 0\n",
+        ),
+        (
+            "sheet-lowest-node-22",
+            bytes(&with_nodes(vec![
+                SKIP,
+                node(3, [0, 0, 0]),
+                node(10, [0, 0, 0]),
+            ])),
+            "refused 22 1 0\n",
         ),
         (
             "sheet-node-of-nobody-6",
@@ -572,7 +601,11 @@ mod tests {
             number.parse().ok()
         });
         let numbers: BTreeSet<u8> = refusals.collect();
-        let expected: BTreeSet<u8> = (1..=10).chain(12..=16).collect();
+        let expected: BTreeSet<u8> = (1..=4)
+            .chain(6..=10)
+            .chain(12..=16)
+            .chain(19..=22)
+            .collect();
         assert_eq!(numbers, expected);
     }
 }

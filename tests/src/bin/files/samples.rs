@@ -6,6 +6,7 @@ use beltuqash_tests::model::sheet::{Node, Sheet};
 /// The samples by the names of their files.
 pub fn all() -> Vec<(&'static str, Sheet)> {
     vec![
+        ("faulty-node.sheet", faulty_node()),
         ("flag.sheet", flag()),
         ("name-twice.sheet", name_twice()),
         ("runner.sheet", runners()),
@@ -86,6 +87,13 @@ fn flag_with(test: &[Node]) -> Sheet {
         constants: vec![0, 1, 500],
         ..with_nodes(nodes)
     }
+}
+
+/// The flag sheet with field 3 in `q := 1`, node 15: refused with number 21.
+fn faulty_node() -> Sheet {
+    let mut sheet = flag();
+    sheet.nodes[15].places[0] = 3;
+    sheet
 }
 
 /// Two fields of one name: refused with number 4.

@@ -1,9 +1,9 @@
 //! The input of the `trials` program: document 01's trials of load that run
-//! and are compared, each limit with one more, and a sheet for each number. A
-//! trial is its name's length (1 byte), the name, the sheet's length (2 bytes),
-//! the sheet.
+//! and are compared, each limit with one more, a sheet for each number, and the
+//! order of what is wrong with nodes. A trial is its name's length (1 byte), the
+//! name, the sheet's length (2 bytes), the sheet.
 
-use crate::parts::{name, node, plain, with_nodes, SKIP};
+use crate::parts::{name, node, operator, plain, with_nodes, SKIP};
 use crate::samples;
 use beltuqash_tests::generate::write::bytes;
 use beltuqash_tests::model::levels::Levels;
@@ -12,8 +12,11 @@ use std::collections::VecDeque;
 
 /// All trials, one after another.
 pub fn input() -> Vec<u8> {
-    let trials = [document(), limits(), one_of_each()].concat();
-    trials.iter().flat_map(record).collect()
+    trials().iter().flat_map(record).collect()
+}
+
+fn trials() -> Vec<Trial> {
+    [document(), limits(), one_of_each(), faulty_nodes()].concat()
 }
 
 fn record((name, sheet): &Trial) -> Vec<u8> {
@@ -98,6 +101,44 @@ fn one_of_each() -> Vec<Trial> {
     ]
 }
 
+/// What is wrong with a node, the order within a node, and the lowest node first.
+fn faulty_nodes() -> Vec<Trial> {
+    let field = node(1, [0, 0, 0]);
+    let trial = |name, nodes| (name, bytes(&with_nodes(nodes)));
+    vec![
+        trial(
+            "operator 10",
+            vec![field, field, operator(2, 10, [0, 1, 0]), node(6, [0, 2, 0])],
+        ),
+        trial(
+            "kind 10 with all else wrong",
+            vec![operator(10, 10, [9, 9, 9])],
+        ),
+        trial(
+            "operator byte 10 in a skip",
+            vec![operator(5, 10, [0, 0, 0])],
+        ),
+        trial("a constant that is not there", vec![node(0, [0, 0, 0])]),
+        trial("a field that is not there", vec![node(1, [1, 0, 0])]),
+        trial("a later child", vec![node(3, [1, 0, 0]), SKIP]),
+        trial(
+            "an expression for a command",
+            vec![field, node(7, [0, 0, 0])],
+        ),
+        trial(
+            "19 before 20 in a node",
+            vec![field, operator(2, 10, [0, 0, 1])],
+        ),
+        trial("20 before 21 in a node", vec![node(1, [1, 0, 1])]),
+        trial("21 before 22 in a node", vec![SKIP, node(6, [1, 0, 0])]),
+        trial(
+            "22 in a node before 19 in the next",
+            vec![SKIP, node(3, [0, 0, 0]), node(10, [0, 0, 0])],
+        ),
+        trial("20 in the last of 1024 nodes", last_unused()),
+    ]
+}
+
 pub fn with_rows(rows: &[u16]) -> Sheet {
     Sheet {
         levels: Levels {
@@ -150,6 +191,13 @@ fn bushy(nodes: u16) -> Vec<Node> {
     all
 }
 
+/// The most nodes, all right but for the last one's unused place.
+pub fn last_unused() -> Vec<Node> {
+    let mut nodes = bushy(1024);
+    nodes[1023].places[2] = 1;
+    nodes
+}
+
 /// Sequences, each the second command of the next: `depth` nodes from root to leaf.
 pub fn nested(depth: u16) -> Vec<Node> {
     let mut nodes = vec![SKIP];
@@ -159,4 +207,24 @@ pub fn nested(depth: u16) -> Vec<Node> {
         nodes.push(node(7, [inner + 1, inner, 0]));
     }
     nodes
+}
+
+#[cfg(test)]
+mod tests {
+    use super::*;
+    use beltuqash_tests::model::load;
+
+    /// A line for each trial: its name, and number, place and units of load.
+    #[test]
+    fn the_model_answers_what_is_stored() {
+        let lines = trials().into_iter().map(|(name, sheet)| {
+            let answer = load(&sheet);
+            format!(
+                "{name}: {} {} {}\n",
+                answer.number, answer.place, answer.units
+            )
+        });
+        let stored = include_str!("../../../../crates/trials/stdout");
+        assert_eq!(lines.collect::<String>(), stored);
+    }
 }

@@ -15,7 +15,7 @@ mod tests;
 
 use self::damage::Damage;
 use super::{any, write, Case};
-use crate::model::number::{DONE, FUEL_USED_UP, MODE_OR_FUEL};
+use crate::model::number::{DONE, MODE_OR_FUEL, STOPS};
 use crate::model::Sheet;
 use crate::random::Random;
 
@@ -42,7 +42,7 @@ pub trait Generated: Sized + 'static {
 #[derive(Clone, Copy, Debug, PartialEq, Eq)]
 pub enum Expected {
     Number(u8),
-    /// It is run: 0, or 12 and above.
+    /// It is run: 0, or 12 to 16.
     Runs,
     Unknown,
 }
@@ -51,7 +51,7 @@ impl Expected {
     pub fn allows(self, number: u8) -> bool {
         match self {
             Expected::Number(expected) => number == expected,
-            Expected::Runs => number == DONE || number >= FUEL_USED_UP,
+            Expected::Runs => number == DONE || STOPS.contains(&number),
             Expected::Unknown => true,
         }
     }
@@ -92,7 +92,7 @@ fn some_damages<C: Generated>(random: &mut Random) -> Vec<&'static Damage<C>> {
 /// Any sheet, most often one made to be run.
 fn sheet(random: &mut Random) -> Case {
     match random.below(100) {
-        0..78 => runnable_case(random),
+        0..75 => runnable_case(random),
         _ => any(random),
     }
 }

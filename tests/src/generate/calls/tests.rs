@@ -5,6 +5,7 @@
 use super::damage::Damage;
 use super::{call_case, runnable, runnable_case, with_damages, CallCase, Expected};
 use crate::compare::calls::Compared;
+use crate::generate::tests::faults_come_up_together;
 use crate::generate::write;
 use crate::model::hand_out::asked;
 use crate::model::number::*;
@@ -44,6 +45,14 @@ fn brings_its_number<C: Compared>(damage: &Damage<C>, index: u64) -> bool {
     let number = call.outcome().answer.number;
     assert!(expected.allows(number), "{} at {index}", damage.name);
     expected == Expected::Number(damage.number)
+}
+
+#[test]
+fn faulty_nodes_come_up_together() {
+    let of_run = (0..60_000).map(|index| call_case::<Call>(27, index).call.sheet);
+    faults_come_up_together(of_run, 5);
+    let of_hand_out = (0..60_000).map(|index| call_case::<HandOut>(28, index).call.sheet);
+    faults_come_up_together(of_hand_out, 5);
 }
 
 /// Whether some hand-out that is answered, or refused with 18, is so.

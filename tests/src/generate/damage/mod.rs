@@ -1,6 +1,7 @@
 //! Damaged sheets: a valid sheet with one to three damages. Most damages bring
 //! about one number for certain, and then the number of the whole is known: the
-//! lowest, as long as no other damage can have undone or overtaken it.
+//! first in the order of checks, as long as no other damage can have undone or
+//! overtaken it.
 
 mod bytes;
 mod counts;
@@ -11,7 +12,7 @@ mod tree;
 
 use super::write::Written;
 use super::{valid, Case};
-use crate::model::number;
+use crate::model::number::{COUNT, DONE, LENGTH, OF_NODES};
 use crate::model::sheet::Sheet;
 use crate::random::Random;
 use std::cmp::Reverse;
@@ -73,12 +74,15 @@ impl Damage {
 }
 
 /// All damages, by the number that they bring about, the unsure ones last.
-pub const GROUPS: [&[Damage]; 10] = [
+pub const GROUPS: [&[Damage]; 13] = [
     bytes::LENGTHS,
     counts::COUNTS,
     levels::LEVELS,
     names::NAMES,
-    nodes::NODES,
+    nodes::UNKNOWN,
+    nodes::UNUSED,
+    nodes::RANGES,
+    nodes::SORTS,
     tree::USES,
     tree::DEPTHS,
     levels::UNSURE,
@@ -96,12 +100,21 @@ pub fn damaged(random: &mut Random) -> Case {
     with_damages(damages, random)
 }
 
+/// Where a number stands in the order of checks: what is wrong with a node stands in
+/// 5's position, whichever it is, since the lowest node is told first.
+fn position(number: u8) -> u8 {
+    match OF_NODES.contains(&number) {
+        true => 5,
+        false => number,
+    }
+}
+
 /// A valid sheet with these damages: the sheet's before the bytes', unsure ones
-/// first, then from the highest number down.
+/// first, then from the last in the order of checks up.
 pub fn with_damages(mut damages: Vec<Damage>, random: &mut Random) -> Case {
     damages.sort_by_key(|damage| {
-        let number = damage.number.unwrap_or(u8::MAX);
-        (damage.is_to_bytes(), Reverse(number))
+        let position = damage.number.map_or(u8::MAX, position);
+        (damage.is_to_bytes(), Reverse(position))
     });
     let mut sheet = valid::sheet(random);
     damages.retain(|damage| match damage.change {
@@ -123,10 +136,11 @@ pub fn with_damages(mut damages: Vec<Damage>, random: &mut Random) -> Case {
 fn expected(damages: &[Damage]) -> Option<u8> {
     let numbers: Option<Vec<u8>> = damages.iter().map(|damage| damage.number).collect();
     let numbers = numbers?;
-    let Some(&lowest) = numbers.iter().min() else {
-        return Some(number::DONE);
+    let Some(&first) = numbers.iter().min_by_key(|&&number| position(number)) else {
+        return Some(DONE);
     };
-    let times = numbers.iter().filter(|&&number| number == lowest).count();
-    let overtaken = lowest == number::LENGTH && numbers.contains(&number::COUNT);
-    (times == 1 && !overtaken).then_some(lowest)
+    let beside = |&&number: &&u8| position(number) == position(first);
+    let times = numbers.iter().filter(beside).count();
+    let overtaken = first == LENGTH && numbers.contains(&COUNT);
+    (times == 1 && !overtaken).then_some(first)
 }

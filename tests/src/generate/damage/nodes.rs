@@ -1,31 +1,62 @@
-//! Damages to single nodes: each part of row 5 broken, at any node and place.
+//! Damages to single nodes: each part of rows 19 to 22 broken, at any node and place,
+//! and several of them in one node.
 
-use super::tree::{exchange_numbers, slots, Slot};
+use super::tree::{exchange_numbers, is_a_leaf, slots, Slot, FIELD, SKIP};
 use super::{Change, Damage};
-use crate::model::nodes::{Place, KINDS};
-use crate::model::number;
+use crate::model::nodes::{Kind, Place, Sort, KINDS};
+use crate::model::number::{NODE_RANGE, NODE_SORT, NODE_UNKNOWN, NODE_UNUSED};
 use crate::model::sheet::{Node, Sheet};
 use crate::random::Random;
 
-/// Row 5.
-pub const NODES: &[Damage] = &[
-    Damage::to_sheet("an unknown kind", number::NODE, unknown_kind),
-    Damage::to_sheet("an unknown operator", number::NODE, unknown_operator),
-    Damage::to_sheet("an operator byte set", number::NODE, operator_byte_set),
-    Damage::to_sheet("a child not lower", number::NODE, child_not_lower),
-    Damage::to_sheet("a child past the nodes", number::NODE, child_past_the_nodes),
-    Damage::to_sheet("child above parent", number::NODE, child_above_parent),
-    Damage::to_sheet("a child of wrong sort", number::NODE, wrong_sort),
-    Damage::to_sheet("two sorts exchanged", number::NODE, sorts_exchanged),
-    Damage::to_sheet("an index too high by one", number::NODE, index_by_one),
-    Damage::to_sheet("an index too high", number::NODE, index_too_high),
-    Damage::to_sheet("an unused place set", number::NODE, unused_place_set),
+/// Row 19.
+pub const UNKNOWN: &[Damage] = &[
+    Damage::to_sheet("an unknown kind", NODE_UNKNOWN, unknown_kind),
+    Damage::to_sheet("an unknown operator", NODE_UNKNOWN, unknown_operator),
+    Damage::to_sheet(
+        "an unknown operator and more",
+        NODE_UNKNOWN,
+        faulty_operator::<NODE_UNKNOWN>,
+    ),
+];
+
+/// Row 20.
+pub const UNUSED: &[Damage] = &[
+    Damage::to_sheet("an operator byte set", NODE_UNUSED, operator_byte_set),
+    Damage::to_sheet("an unused place set", NODE_UNUSED, unused_place_set),
+    Damage::to_sheet(
+        "an unused place set and more",
+        NODE_UNUSED,
+        faulty_operator::<NODE_UNUSED>,
+    ),
+];
+
+/// Row 21.
+pub const RANGES: &[Damage] = &[
+    Damage::to_sheet("a child not lower", NODE_RANGE, child_not_lower),
+    Damage::to_sheet("a child past the nodes", NODE_RANGE, child_past_the_nodes),
+    Damage::to_sheet("child above parent", NODE_RANGE, child_above_parent),
+    Damage::to_sheet("an index too high by one", NODE_RANGE, index_by_one),
+    Damage::to_sheet("an index too high", NODE_RANGE, index_too_high),
+    Damage::to_sheet(
+        "a child not lower and more",
+        NODE_RANGE,
+        faulty_operator::<NODE_RANGE>,
+    ),
+];
+
+/// Row 22.
+pub const SORTS: &[Damage] = &[
+    Damage::to_sheet("a child of wrong sort", NODE_SORT, wrong_sort),
+    Damage::to_sheet("a leaf of wrong sort", NODE_SORT, leaf_of_wrong_sort),
+    Damage::to_sheet("two sorts exchanged", NODE_SORT, sorts_exchanged),
 ];
 
 /// Changes that may do anything to the tree, or nothing.
 pub const UNSURE: &[Damage] = &[
     Damage::unsure("any kind", Change::Sheet(any_kind)),
     Damage::unsure("any value in a place", Change::Sheet(any_place)),
+    Damage::unsure("any node", Change::Sheet(any_node)),
+    Damage::unsure("several nodes", Change::Sheet(several_nodes)),
     Damage::unsure("nodes swapped", Change::Sheet(nodes_swapped)),
 ];
 
@@ -65,7 +96,7 @@ fn unknown_kind(sheet: &mut Sheet, random: &mut Random) -> bool {
 }
 
 fn takes_operators(node: &Node) -> bool {
-    node.known_kind().is_some_and(|kind| kind.operators > 1)
+    node.known_kind().is_some_and(Kind::has_operators)
 }
 
 fn unknown_operator(sheet: &mut Sheet, random: &mut Random) -> bool {
@@ -140,6 +171,20 @@ fn wrong_sort(sheet: &mut Sheet, random: &mut Random) -> bool {
     child.map(|child| slot.set(sheet, child)).is_some()
 }
 
+/// A skip where an expression stood, or a field where a skip stood.
+fn leaf_of_wrong_sort(sheet: &mut Sheet, random: &mut Random) -> bool {
+    let mut slots = slots(&sheet.nodes);
+    slots.retain(|slot| is_a_leaf(sheet, slot.child));
+    let slot = random.pick_any(&slots);
+    slot.map(|slot| {
+        sheet.nodes[slot.child] = match slot.sort {
+            Sort::Expression => SKIP,
+            Sort::Command => FIELD,
+        }
+    })
+    .is_some()
+}
+
 /// Two children of different sorts change places; every node stays used once.
 fn sorts_exchanged(sheet: &mut Sheet, random: &mut Random) -> bool {
     let slots = slots(&sheet.nodes);
@@ -206,6 +251,34 @@ fn unused_place_set(sheet: &mut Sheet, random: &mut Random) -> bool {
     true
 }
 
+/// An operator, whose node can have every fault, with this one and any later ones.
+fn faulty_operator<const FIRST: u8>(sheet: &mut Sheet, random: &mut Random) -> bool {
+    let Some(number) = some_node(sheet, random, takes_operators) else {
+        return false;
+    };
+    let is_command = |&lower: &usize| sheet.nodes[lower].sort() == Some(Sort::Command);
+    let commands: Vec<usize> = (0..number).filter(is_command).collect();
+    let not_lower = random.between(number, sheet.nodes.len());
+    let unknown = random.between(10, 255);
+    let node = &mut sheet.nodes[number];
+    let mut has = |fault| fault == FIRST || fault > FIRST && random.once_in(2);
+    if has(NODE_UNKNOWN) {
+        node.operator = unknown as u8;
+    }
+    if has(NODE_UNUSED) {
+        node.places[2] = 1;
+    }
+    if has(NODE_SORT) {
+        node.places[0] = commands
+            .last()
+            .map_or(node.places[0], |&lower| lower as u16);
+    }
+    if has(NODE_RANGE) {
+        node.places[1] = not_lower as u16;
+    }
+    true
+}
+
 fn any_kind(sheet: &mut Sheet, random: &mut Random) -> bool {
     let number = random.below(sheet.nodes.len());
     sheet.nodes[number].kind = random.below(KINDS.len()) as u8;
@@ -217,6 +290,24 @@ fn any_place(sheet: &mut Sheet, random: &mut Random) -> bool {
     let node = &mut sheet.nodes[random.below(count)];
     node.places[random.below(3)] = random.below(count + 1) as u16;
     true
+}
+
+/// A node made anew; mostly several of its parts are wrong.
+fn any_node(sheet: &mut Sheet, random: &mut Random) -> bool {
+    let count = sheet.nodes.len();
+    let number = random.below(count);
+    let mut place = |_| random.pick(&[0, number / 2, number.max(1) - 1, number, count]) as u16;
+    let places = [0; 3].map(&mut place);
+    sheet.nodes[number] = Node {
+        kind: random.below(KINDS.len() + 1) as u8,
+        operator: random.pick(&[0, 0, 1, 9, 10]),
+        places,
+    };
+    true
+}
+
+fn several_nodes(sheet: &mut Sheet, random: &mut Random) -> bool {
+    (0..random.between(2, 4)).all(|_| any_node(sheet, random))
 }
 
 fn nodes_swapped(sheet: &mut Sheet, random: &mut Random) -> bool {

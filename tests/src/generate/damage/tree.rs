@@ -129,7 +129,7 @@ fn only_used_twice(sheet: &mut Sheet, random: &mut Random) -> bool {
     true
 }
 
-fn is_a_leaf(sheet: &Sheet, number: usize) -> bool {
+pub fn is_a_leaf(sheet: &Sheet, number: usize) -> bool {
     let node = sheet.nodes.get(number);
     node.is_some_and(|node| node.children().count() == 0)
 }
@@ -151,13 +151,13 @@ fn twice_in_one_node(sheet: &mut Sheet, random: &mut Random) -> bool {
 }
 
 /// Field 0.
-const FIELD: Node = Node {
+pub const FIELD: Node = Node {
     kind: 1,
     operator: 0,
     places: [0; 3],
 };
 
-const SKIP: Node = Node { kind: 5, ..FIELD };
+pub const SKIP: Node = Node { kind: 5, ..FIELD };
 
 /// One leaf is left over: first, right before the last node, or between.
 fn only_never_used(sheet: &mut Sheet, random: &mut Random) -> bool {

@@ -46,7 +46,7 @@ pub fn hand_out(call: &HandOut) -> Outcome {
 pub fn hand_out_by(rules: &Rules, call: &HandOut) -> Outcome {
     match Asked::checked(rules, call) {
         Ok(asked) => asked.outcome(rules),
-        Err(number) => Outcome::refused(Answer::plain(number)),
+        Err(refusal) => Outcome::refused(refusal),
     }
 }
 
@@ -60,18 +60,18 @@ pub struct Asked {
 }
 
 impl Asked {
-    /// Rows 1 to 7, 8, 9, 17 and 11, in the order of checks.
-    pub fn checked(rules: &Rules, call: &HandOut) -> Result<Asked, u8> {
+    /// Load's rows, 8, 9, 17 and 11, in the order of checks.
+    pub fn checked(rules: &Rules, call: &HandOut) -> Result<Asked, Answer> {
         let sheet = judged(&call.sheet)?;
         if !(rules.store_fits)(&sheet, &call.store) {
-            return Err(STORE);
+            return Err(Answer::plain(STORE));
         }
         if !entries(&call.store).all(|(mark, _)| (rules.mark_is_right)(&sheet, mark)) {
-            return Err(MARK);
+            return Err(Answer::plain(MARK));
         }
-        let fields = request_fields(rules, &sheet, call).ok_or(REQUEST)?;
+        let fields = request_fields(rules, &sheet, call).ok_or(Answer::plain(REQUEST))?;
         if !(rules.output_is_long_enough)(fields.len(), call.output.len()) {
-            return Err(OUTPUT);
+            return Err(Answer::plain(OUTPUT));
         }
         Ok(Asked {
             store: Store::read(&sheet, &call.store),

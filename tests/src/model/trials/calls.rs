@@ -107,7 +107,7 @@ fn the_first_failing_row_in_the_order_is_told() {
     gives(STORE, &call);
     let last_place = call.sheet.len() - 1;
     call.sheet[last_place] = 1;
-    gives(NODE, &call);
+    gives(NODE_UNUSED, &call);
     call.sheet[2] = 0;
     gives(LEVELS, &call);
     call.sheet.push(0);
@@ -121,10 +121,16 @@ fn the_first_failing_row_in_the_order_is_told() {
 
 #[test]
 fn each_number_of_the_sheet_comes_before_8_and_after_10() {
-    let sheets: [(u8, Parts); 5] = [
+    let node = |node| Parts {
+        nodes: vec![node],
+        ..plain()
+    };
+    let sheets: [(u8, Parts); 7] = [
         (LEVELS, Parts::of(&[0], 1, skip())),
         (COUNT, Parts::of(&[1], 0, skip())),
-        (NODE, Parts::of(&[1], 1, assign(1, constant(0)))),
+        (NODE_UNKNOWN, node([10, 0, 0, 0, 0])),
+        (NODE_UNUSED, node([5, 0, 0, 0, 1])),
+        (NODE_RANGE, node([1, 0, 2, 0, 0])),
         (USE, Parts::of(&[1], 1, constant(0))),
         (DEPTH, Parts::of(&[1], 1, deep(65))),
     ];
@@ -139,6 +145,13 @@ fn each_number_of_the_sheet_comes_before_8_and_after_10() {
         call.mode = 2;
         gives(MODE_OR_FUEL, &call);
     }
+}
+
+#[test]
+fn the_place_of_a_faulty_node_is_told() {
+    let sheet = Parts::of(&[1], 1, assign(1, constant(0)));
+    let call = call(&sheet, &[whole(0, 1)], STRICT, 64);
+    refused(&call, NODE_RANGE, 1, 0);
 }
 
 /// Sequences, each the first command of the next.

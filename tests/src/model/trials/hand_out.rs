@@ -133,6 +133,19 @@ fn any_mark_it_knows() {
 }
 
 #[test]
+fn the_place_of_a_faulty_node_is_told() {
+    let sheet = Parts::of(&[15, 10, 12, 8], 5, assign(5, constant(0))).bytes();
+    gives(
+        NODE_RANGE,
+        1,
+        &HandOut {
+            sheet,
+            ..quiet(0, &[0])
+        },
+    );
+}
+
+#[test]
 fn the_first_failing_row_in_the_order_is_told() {
     let mut call = quiet(0, &[0, 4]);
     gives(PARTIAL_ASKED, 1, &call);
@@ -146,7 +159,7 @@ fn the_first_failing_row_in_the_order_is_told() {
     gives(STORE, 0, &call);
     let last_place = call.sheet.len() - 1;
     call.sheet[last_place] = 1;
-    gives(NODE, 0, &call);
+    gives(NODE_UNUSED, 0, &call);
     call.sheet.push(0);
     gives(LENGTH, 0, &call);
 }

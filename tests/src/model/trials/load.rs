@@ -1,5 +1,5 @@
 //! Trials of load: the document's example, its trials, every limit from both
-//! sides, each part of rows 3 to 7, and the order of the checks.
+//! sides, each part of the later rows, and the order of the checks.
 
 use super::*;
 
@@ -24,6 +24,14 @@ fn names_give(number: u8, names: &[[u8; 8]]) {
 fn nodes_give(number: u8, nodes: &[[u16; 5]]) {
     let nodes = nodes.to_vec();
     gives(number, &Parts { nodes, ..plain() });
+}
+
+/// The answer is this number at this node.
+#[track_caller]
+fn nodes_give_at(node: usize, number: u8, nodes: &[[u16; 5]]) {
+    let nodes = nodes.to_vec();
+    let bytes = Parts { nodes, ..plain() }.bytes();
+    assert_eq!(load(&bytes), Answer::at_node(number, node));
 }
 
 #[test]
@@ -267,22 +275,34 @@ fn sheets_of_each_kind() -> Vec<Vec<[u16; 5]>> {
     ]
 }
 
+/// Where the first node of this kind stands in its sheet.
+fn place_of(kind: usize) -> usize {
+    let nodes = &sheets_of_each_kind()[kind];
+    let place = nodes.iter().position(|node| node[0] == kind as u16);
+    place.expect("there")
+}
+
 /// Sets one part of the first node of this kind: 0 kind, 1 operator, 2 to 4 a to c.
 fn with(kind: usize, part: usize, value: u16) -> Vec<[u16; 5]> {
     let mut nodes = sheets_of_each_kind()[kind].clone();
-    let node = nodes.iter_mut().find(|node| node[0] == kind as u16);
-    node.expect("there")[part] = value;
+    nodes[place_of(kind)][part] = value;
     nodes
 }
 
+/// The number that the first node of this kind gets with this part so.
+#[track_caller]
+fn part_gives(number: u8, (kind, part): (usize, usize), value: u16) {
+    nodes_give_at(place_of(kind), number, &with(kind, part, value));
+}
+
 #[test]
-fn each_kind_is_taken_and_kind_10_is_5() {
+fn each_kind_is_taken_and_kind_10_is_19() {
     for nodes in sheets_of_each_kind() {
         nodes_give(DONE, &nodes);
     }
     for kind in 0..10 {
-        nodes_give(NODE, &with(kind, 0, 10));
-        nodes_give(NODE, &with(kind, 0, 255));
+        part_gives(NODE_UNKNOWN, (kind, 0), 10);
+        part_gives(NODE_UNKNOWN, (kind, 0), 255);
     }
 }
 
@@ -291,10 +311,13 @@ fn operators() {
     for operator in 0..=9 {
         nodes_give(DONE, &with(2, 1, operator));
     }
-    nodes_give(NODE, &with(2, 1, 10));
-    nodes_give(NODE, &with(2, 1, 255));
+    part_gives(NODE_UNKNOWN, (2, 1), 10);
+    part_gives(NODE_UNKNOWN, (2, 1), 255);
+    // In a kind without one the byte is an unused place, whatever it is.
     for kind in [0, 1, 3, 4, 5, 6, 7, 8, 9] {
-        nodes_give(NODE, &with(kind, 1, 1));
+        for operator in [1, 9, 10, 255] {
+            part_gives(NODE_UNUSED, (kind, 1), operator);
+        }
     }
 }
 
@@ -314,8 +337,8 @@ fn unused_places_are_0() {
     ];
     for (kind, parts) in unused {
         for &part in parts {
-            nodes_give(NODE, &with(kind, part, 1));
-            nodes_give(NODE, &with(kind, part, 256));
+            part_gives(NODE_UNUSED, (kind, part), 1);
+            part_gives(NODE_UNUSED, (kind, part), 256);
         }
     }
 }
@@ -332,11 +355,10 @@ fn child_numbers_are_lower() {
         (9, &[2, 3]),
     ];
     for (kind, parts) in children {
-        let nodes = &sheets_of_each_kind()[kind];
-        let own = nodes.iter().position(|node| node[0] == kind as u16);
+        let nodes = sheets_of_each_kind()[kind].len();
         for &part in parts {
-            for child in [own.expect("there"), nodes.len(), 65_535] {
-                nodes_give(NODE, &with(kind, part, child as u16));
+            for child in [place_of(kind), nodes, 65_535] {
+                part_gives(NODE_RANGE, (kind, part), child as u16);
             }
         }
     }
@@ -344,16 +366,16 @@ fn child_numbers_are_lower() {
 
 #[test]
 fn children_have_their_sort() {
-    nodes_give(NODE, &[CONSTANT, SKIP, [2, 0, 0, 1, 0], SKIP]);
-    nodes_give(NODE, &[SKIP, [3, 0, 0, 0, 0], SKIP]);
-    nodes_give(NODE, &[SKIP, [4, 0, 0, 0, 0], SKIP]);
-    nodes_give(NODE, &[SKIP, [6, 0, 0, 0, 0]]);
-    nodes_give(NODE, &[CONSTANT, SKIP, [7, 0, 0, 1, 0]]);
-    nodes_give(NODE, &[SKIP, CONSTANT, [7, 0, 0, 1, 0]]);
-    nodes_give(NODE, &[SKIP, CONSTANT, SKIP, [8, 0, 0, 1, 2]]);
-    nodes_give(NODE, &[SKIP, CONSTANT, SKIP, [8, 0, 1, 0, 1]]);
-    nodes_give(NODE, &[SKIP, CONSTANT, [9, 0, 0, 1, 0]]);
-    nodes_give(NODE, &[CONSTANT, CONSTANT, [9, 0, 0, 1, 0]]);
+    nodes_give_at(2, NODE_SORT, &[CONSTANT, SKIP, [2, 0, 0, 1, 0], SKIP]);
+    nodes_give_at(1, NODE_SORT, &[SKIP, [3, 0, 0, 0, 0], SKIP]);
+    nodes_give_at(1, NODE_SORT, &[SKIP, [4, 0, 0, 0, 0], SKIP]);
+    nodes_give_at(1, NODE_SORT, &[SKIP, [6, 0, 0, 0, 0]]);
+    nodes_give_at(2, NODE_SORT, &[CONSTANT, SKIP, [7, 0, 0, 1, 0]]);
+    nodes_give_at(2, NODE_SORT, &[SKIP, CONSTANT, [7, 0, 0, 1, 0]]);
+    nodes_give_at(3, NODE_SORT, &[SKIP, CONSTANT, SKIP, [8, 0, 0, 1, 2]]);
+    nodes_give_at(3, NODE_SORT, &[SKIP, CONSTANT, SKIP, [8, 0, 1, 0, 1]]);
+    nodes_give_at(2, NODE_SORT, &[SKIP, CONSTANT, [9, 0, 0, 1, 0]]);
+    nodes_give_at(2, NODE_SORT, &[CONSTANT, CONSTANT, [9, 0, 0, 1, 0]]);
 }
 
 #[test]
@@ -361,15 +383,59 @@ fn indexes_are_in_range() {
     for (kind, last) in [(0, 2), (1, 1), (6, 1)] {
         nodes_give(DONE, &with(kind, 2, 0));
         nodes_give(DONE, &with(kind, 2, last));
-        nodes_give(NODE, &with(kind, 2, last + 1));
-        nodes_give(NODE, &with(kind, 2, 256));
+        part_gives(NODE_RANGE, (kind, 2), last + 1);
+        part_gives(NODE_RANGE, (kind, 2), 256);
     }
     let without_constants = Parts {
         constants: Vec::new(),
         nodes: sheets_of_each_kind()[0].clone(),
         ..plain()
     };
-    gives(NODE, &without_constants);
+    gives(NODE_RANGE, &without_constants);
+}
+
+#[test]
+fn a_node_is_looked_at_for_19_to_22_in_this_order() {
+    // Node 2 is an operator; its faults are put right one after another.
+    let mut nodes = vec![CONSTANT, SKIP, [2, 10, 1, 2, 1], [6, 0, 0, 2, 0]];
+    for (number, part, right) in [
+        (NODE_UNKNOWN, 1, 9),
+        (NODE_UNUSED, 4, 0),
+        (NODE_RANGE, 3, 0),
+        (NODE_SORT, 2, 0),
+    ] {
+        nodes_give_at(2, number, &nodes);
+        nodes[2][part] = right;
+    }
+    nodes_give(USE, &nodes);
+    // All of a node is looked at for one number before the next.
+    nodes_give_at(0, NODE_UNUSED, &[[1, 0, 9, 0, 1]]);
+    nodes_give_at(0, NODE_UNUSED, &[[6, 1, 9, 9, 0]]);
+    nodes_give_at(1, NODE_RANGE, &[CONSTANT, [7, 0, 0, 1, 0]]);
+    nodes_give_at(1, NODE_RANGE, &[SKIP, [6, 0, 2, 0, 0]]);
+    // An unknown kind is 19 whatever else is wrong with the node.
+    nodes_give_at(0, NODE_UNKNOWN, &[[10, 10, 9, 9, 9]]);
+    // A child that is not lower has no sort.
+    nodes_give_at(0, NODE_RANGE, &[[3, 0, 1, 0, 0], SKIP]);
+}
+
+#[test]
+fn the_lowest_faulty_node_is_told() {
+    let faults: [(u8, [u16; 5]); 4] = [
+        (NODE_SORT, [3, 0, 0, 0, 0]),
+        (NODE_RANGE, [1, 0, 2, 0, 0]),
+        (NODE_UNUSED, [5, 0, 0, 0, 1]),
+        (NODE_UNKNOWN, [10, 0, 0, 0, 0]),
+    ];
+    for (lower, node) in faults {
+        for (_, later) in faults {
+            nodes_give_at(1, lower, &[SKIP, node, later]);
+            nodes_give_at(2, lower, &[SKIP, SKIP, node, SKIP, later]);
+        }
+    }
+    let mut nodes = bushy(512);
+    nodes[1022][4] = 1;
+    nodes_give_at(1022, NODE_UNUSED, &nodes);
 }
 
 #[test]
@@ -393,7 +459,7 @@ fn the_first_failing_row_in_the_order_is_told() {
     parts.nodes.swap(64, 65);
     gives(USE, &parts);
     parts.nodes[0][4] = 1;
-    gives(NODE, &parts);
+    gives(NODE_UNUSED, &parts);
     parts.names[0][0] = b'_';
     gives(NAME, &parts);
     parts.rows[0] = 0;

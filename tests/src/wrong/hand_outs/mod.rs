@@ -7,7 +7,7 @@ mod order;
 mod refusals;
 mod writes;
 
-use super::calls::{about_success, about_writes, Rulebook, Wrong};
+use super::calls::{about_nodes, about_success, about_writes, Rulebook, Wrong};
 use crate::model::hand_out::hand_out_by;
 use crate::model::hand_out::rules::Rules;
 use crate::model::{HandOut, Outcome};
@@ -28,6 +28,7 @@ pub fn all() -> Vec<WrongHandOut> {
     hand_outs.extend(checks::hand_outs());
     hand_outs.extend(order::hand_outs());
     hand_outs.extend(writes::hand_outs());
+    hand_outs.extend(about_nodes());
     hand_outs.extend(about_success());
     hand_outs.extend(about_writes());
     hand_outs

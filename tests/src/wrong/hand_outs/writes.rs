@@ -3,7 +3,7 @@
 use super::WrongHandOut;
 use crate::model::hand_out::rules::{Rules, DOCUMENT};
 use crate::model::hand_out::{asked, hand_out_by, request};
-use crate::model::number::{DONE, NODE, OUTPUT, PARTIAL_ASKED, REQUEST};
+use crate::model::number::{DONE, NODE_RANGE, OUTPUT, PARTIAL_ASKED, REQUEST};
 use crate::model::store::ENTRY_BYTES;
 use crate::model::{Answer, HandOut, Outcome};
 use crate::wrong::calls::{entries, fitting, Answering, Faults, Making, Spoiling, Writing};
@@ -125,7 +125,7 @@ const ON_REFUSAL: Faults<Spoiling<HandOut>> = &[
 
 const FIXED: Faults<Making<HandOut>> = &[
     ("every sheet refused", |_, _| {
-        Outcome::refused(Answer::plain(NODE))
+        Outcome::refused(Answer::plain(NODE_RANGE))
     }),
     ("every request refused", |_, right| {
         match right.answer.number {

@@ -1,10 +1,10 @@
 //! Judges wrong about levels, names and single nodes.
 
 use super::WrongJudge;
-use crate::model::nodes::{nodes_are_right, Place, KINDS};
-use crate::model::number::{DONE, LEVELS, NAME, NODE};
+use crate::model::nodes::{fault_of, first_fault, first_fault_by, Law, Place, KINDS, LAWS};
+use crate::model::number::{DONE, LEVELS, NAME, NODE_UNKNOWN};
 use crate::model::sheet::{Node, Sheet};
-use crate::model::{levels, names, nodes};
+use crate::model::{levels, names};
 
 pub fn judges() -> Vec<WrongJudge> {
     let mut judges = laws_overlooked();
@@ -19,7 +19,7 @@ pub fn judges() -> Vec<WrongJudge> {
     judges
 }
 
-/// Each law of rows 3 to 5 left out, the others kept.
+/// Each law of levels, names and nodes left out, the others kept.
 fn laws_overlooked() -> Vec<WrongJudge> {
     let level_laws = levels::LAWS.iter().map(|&(out, _)| {
         let name = format!("levels: '{out}' overlooked");
@@ -33,12 +33,11 @@ fn laws_overlooked() -> Vec<WrongJudge> {
             others(&names::LAWS, out).all(|law| law(&sheet.fields))
         })
     });
-    let node_laws = nodes::LAWS.iter().map(|&(out, _)| {
-        let name = format!("nodes: '{out}' overlooked");
-        WrongJudge::confusing_sheets(name, (NODE, DONE), move |sheet| {
-            let mut numbers = 0..sheet.nodes.len();
-            numbers.all(|number| others(&nodes::LAWS, out).all(|law| law(sheet, number)))
-        })
+    let node_laws = LAWS.iter().map(|out| {
+        let name = format!("nodes: '{}' overlooked", out.name);
+        let kept = LAWS.iter().filter(|law| law.name != out.name);
+        let kept: Vec<Law> = kept.copied().collect();
+        WrongJudge::finding(name, move |sheet| first_fault_by(&kept, sheet))
     });
     level_laws.chain(name_laws).chain(node_laws).collect()
 }
@@ -81,13 +80,12 @@ fn names_misread() -> Vec<WrongJudge> {
 
 /// The first or the last node is not judged.
 fn nodes_not_judged() -> Vec<WrongJudge> {
-    let all_laws = |sheet: &Sheet, number| nodes::LAWS.iter().all(|(_, law)| law(sheet, number));
     vec![
-        WrongJudge::confusing_sheets("first node not judged", (NODE, DONE), move |sheet| {
-            (1..sheet.nodes.len()).all(|number| all_laws(sheet, number))
+        WrongJudge::finding("first node not judged", |sheet| {
+            (1..sheet.nodes.len()).find_map(|number| fault_of(&LAWS, sheet, number))
         }),
-        WrongJudge::confusing_sheets("last node not judged", (NODE, DONE), move |sheet| {
-            (0..sheet.nodes.len() - 1).all(|number| all_laws(sheet, number))
+        WrongJudge::finding("last node not judged", |sheet| {
+            (0..sheet.nodes.len() - 1).find_map(|number| fault_of(&LAWS, sheet, number))
         }),
     ]
 }
@@ -98,14 +96,14 @@ fn overlooking(
     kind: usize,
     put_right: impl Fn(&Sheet, usize, &mut Node) + 'static,
 ) -> WrongJudge {
-    WrongJudge::confusing_sheets(name, (NODE, DONE), move |sheet| {
+    WrongJudge::finding(name, move |sheet| {
         let mut changed = sheet.clone();
         for (number, node) in changed.nodes.iter_mut().enumerate() {
             if usize::from(node.kind) == kind {
                 put_right(sheet, number, node);
             }
         }
-        nodes_are_right(&changed)
+        first_fault(&changed)
     })
 }
 
@@ -134,7 +132,7 @@ fn misreading(
     holding: impl Fn(Place) -> bool + 'static,
     change: impl Fn(&Sheet, u16) -> u16 + 'static,
 ) -> WrongJudge {
-    WrongJudge::confusing_sheets(name, (NODE, DONE), move |sheet| {
+    WrongJudge::finding(name, move |sheet| {
         let mut changed = sheet.clone();
         for node in &mut changed.nodes {
             let held: Vec<(Place, u16)> = node.held().collect();
@@ -144,7 +142,7 @@ fn misreading(
                 }
             }
         }
-        nodes_are_right(&changed)
+        first_fault(&changed)
     })
 }
 
@@ -179,23 +177,29 @@ fn values_misread() -> Vec<WrongJudge> {
     ]
 }
 
+/// Asks this for the law of this name.
+fn asking(name: &str, law: &str, holds: fn(&Sheet, usize) -> bool) -> WrongJudge {
+    let mut laws = LAWS;
+    for asked in laws.iter_mut().filter(|asked| asked.name == law) {
+        asked.holds = holds;
+    }
+    WrongJudge::finding(name, move |sheet| first_fault_by(&laws, sheet))
+}
+
 fn limits_misread() -> Vec<WrongJudge> {
     vec![
-        WrongJudge::confusing_sheets("a node its own child", (NODE, DONE), |sheet| {
-            (0..sheet.nodes.len()).all(|number| {
-                let mut children = sheet.nodes[number].children();
-                let lower_or_own = children.all(|child| child <= number);
-                others(&nodes::LAWS, "child number").all(|law| law(sheet, number)) && lower_or_own
-            })
+        asking("a node its own child", "child number", |sheet, number| {
+            let mut children = sheet.nodes[number].children();
+            children.all(|child| child <= number)
         }),
-        WrongJudge::confusing_sheets("operator 10 taken", (NODE, DONE), |sheet| {
+        WrongJudge::finding("operator 10 taken", |sheet| {
             let mut changed = sheet.clone();
             for node in &mut changed.nodes {
                 node.operator -= u8::from(node.operator == 10);
             }
-            nodes_are_right(&changed)
+            first_fault(&changed)
         }),
-        WrongJudge::confusing_sheets("operator 9 refused", (DONE, NODE), |sheet| {
+        WrongJudge::confusing_sheets("operator 9 refused", (DONE, NODE_UNKNOWN), |sheet| {
             sheet.nodes.iter().any(|node| node.operator == 9)
         }),
     ]

@@ -1,15 +1,17 @@
 //! Judges of sheets that are wrong on purpose, each in one small way.
 
 mod entries;
+pub mod faults;
 mod orders;
 mod sections;
 mod tree;
 
 use crate::compare::load::compare;
+use crate::model::number::{DONE, OF_NODES};
 use crate::model::{load, Answer, Sheet};
 
-/// The number given to these bytes, to which the model gives the other.
-type Says = Box<dyn Fn(&[u8], u8) -> u8>;
+/// The answer given to these bytes, to which the model gives the other.
+type Says = Box<dyn Fn(&[u8], Answer) -> Answer>;
 
 /// A judge with a fault.
 pub struct WrongJudge {
@@ -18,7 +20,10 @@ pub struct WrongJudge {
 }
 
 impl WrongJudge {
-    fn new(name: impl Into<String>, says: impl Fn(&[u8], u8) -> u8 + 'static) -> WrongJudge {
+    fn new(
+        name: impl Into<String>,
+        says: impl Fn(&[u8], Answer) -> Answer + 'static,
+    ) -> WrongJudge {
         WrongJudge {
             name: name.into(),
             says: Box::new(says),
@@ -31,10 +36,10 @@ impl WrongJudge {
         (right, wrong): (u8, u8),
         so: impl Fn(&[u8]) -> bool + 'static,
     ) -> WrongJudge {
-        WrongJudge::new(name, move |bytes, number| {
-            match number == right && so(bytes) {
-                true => wrong,
-                false => number,
+        WrongJudge::new(name, move |bytes, answer| {
+            match answer.number == right && so(bytes) {
+                true => Answer::plain(wrong),
+                false => answer,
             }
         })
     }
@@ -50,10 +55,34 @@ impl WrongJudge {
         })
     }
 
+    /// Says this for these numbers, where it says anything of the sheet.
+    fn instead_of(
+        numbers: &'static [u8],
+        name: impl Into<String>,
+        says: impl Fn(&Sheet) -> Option<Answer> + 'static,
+    ) -> WrongJudge {
+        WrongJudge::new(name, move |bytes, answer| {
+            let sheet = match numbers.contains(&answer.number) {
+                true => Sheet::read(bytes).ok(),
+                false => None,
+            };
+            sheet.and_then(|sheet| says(&sheet)).unwrap_or(answer)
+        })
+    }
+
+    /// Where a node is wrong, says what it finds in this way, or takes the sheet.
+    fn finding(
+        name: impl Into<String>,
+        fault: impl Fn(&Sheet) -> Option<Answer> + 'static,
+    ) -> WrongJudge {
+        WrongJudge::instead_of(OF_NODES, name, move |sheet| {
+            Some(fault(sheet).unwrap_or(Answer::plain(DONE)))
+        })
+    }
+
     /// This judge's answer.
     pub fn answer(&self, bytes: &[u8]) -> Answer {
-        let right = load(bytes).number;
-        Answer::plain((self.says)(bytes, right))
+        (self.says)(bytes, load(bytes))
     }
 }
 
@@ -61,6 +90,7 @@ impl WrongJudge {
 pub fn all() -> Vec<WrongJudge> {
     let mut judges = sections::judges();
     judges.extend(entries::judges());
+    judges.extend(faults::judges());
     judges.extend(tree::judges());
     judges.extend(orders::judges());
     judges
@@ -94,7 +124,7 @@ mod tests {
 
     #[test]
     fn a_right_judge_is_not_found_out() {
-        let right = [WrongJudge::new("right", |_, number| number)];
+        let right = [WrongJudge::new("right", |_, answer| answer)];
         assert_eq!(not_found_out(&right, 1, 2_000), ["right"]);
     }
 }

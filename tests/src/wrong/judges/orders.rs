@@ -2,16 +2,18 @@
 
 use super::WrongJudge;
 use crate::model::levels::{Levels, LAWS};
-use crate::model::nodes::nodes_are_right;
-use crate::model::number::{COUNT, LENGTH, LEVELS, NODE, USE};
+use crate::model::nodes::first_fault;
+use crate::model::number::{COUNT, DONE, LENGTH, LEVELS, OF_NODES, USE};
 use crate::model::sheet::{Section, Sheet, SECTIONS};
 use crate::model::tree::last_is_a_command;
-use crate::model::{load, CHECKS};
+use crate::model::{load, Answer, CHECKS};
 
 pub fn judges() -> Vec<WrongJudge> {
-    let mut judges = rows_exchanged();
+    let mut judges = checks_exchanged();
     judges.extend([
-        WrongJudge::confusing_sheets("6 before 5", (NODE, USE), |sheet| !last_is_a_command(sheet)),
+        WrongJudge::instead_of(OF_NODES, "6 before 19 to 22", |sheet| {
+            (!last_is_a_command(sheet)).then(|| Answer::plain(USE))
+        }),
         WrongJudge::confusing("3 before 1", (LENGTH, LEVELS), levels_fail),
         WrongJudge::confusing("3 before 2", (COUNT, LEVELS), levels_fail),
         WrongJudge::confusing("limits after the lengths", (COUNT, LENGTH), |bytes| {
@@ -22,19 +24,19 @@ pub fn judges() -> Vec<WrongJudge> {
     judges
 }
 
-/// Of two rows that both fail, the later one is told. Rows 6 and 7 are asked
+/// Of two checks that both refuse, the later one is told. Rows 6 and 7 are asked
 /// only of right nodes.
-fn rows_exchanged() -> Vec<WrongJudge> {
+fn checks_exchanged() -> Vec<WrongJudge> {
     let mut judges = Vec::new();
     for (at, late) in CHECKS.iter().enumerate() {
-        for early in CHECKS[..at].iter().filter(|early| early.number != NODE) {
-            let name = format!("{} before {}", late.number, early.number);
-            let numbers = (early.number, late.number);
-            let fails = |sheet: &Sheet| {
-                let askable = late.number <= NODE || nodes_are_right(sheet);
-                askable && !(late.passes)(sheet)
-            };
-            judges.push(WrongJudge::confusing_sheets(name, numbers, fails));
+        let of_nodes = |numbers| numbers == OF_NODES;
+        let after_nodes = CHECKS[..at].iter().any(|early| of_nodes(early.numbers));
+        for early in CHECKS[..at].iter().filter(|early| !of_nodes(early.numbers)) {
+            let name = format!("{:?} before {:?}", late.numbers, early.numbers);
+            judges.push(WrongJudge::instead_of(early.numbers, name, move |sheet| {
+                let askable = !after_nodes || first_fault(sheet).is_none();
+                askable.then(|| (late.refusal)(sheet)).flatten()
+            }));
         }
     }
     judges
@@ -66,14 +68,14 @@ fn without_limits() -> [Section; 4] {
 
 /// A byte left is told only if the sheet is right without it.
 fn bytes_left_come_last() -> WrongJudge {
-    WrongJudge::new("bytes left come last", |bytes, number| {
-        if number != LENGTH || bytes.is_empty() {
-            return number;
+    WrongJudge::new("bytes left come last", |bytes, answer| {
+        if answer.number != LENGTH || bytes.is_empty() {
+            return answer;
         }
-        let without = load(&bytes[..bytes.len() - 1]).number;
-        match without >= LEVELS {
-            true => without,
-            false => number,
+        let without = load(&bytes[..bytes.len() - 1]);
+        match without.number {
+            DONE | LENGTH | COUNT => answer,
+            _ => without,
         }
     })
 }

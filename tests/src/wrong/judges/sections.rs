@@ -1,9 +1,9 @@
 //! Judges wrong about lengths and counts.
 
 use super::WrongJudge;
-use crate::model::load;
 use crate::model::number::{COUNT, DONE, LENGTH};
 use crate::model::sheet::{Section, Sheet, COUNT_BYTES, SECTIONS};
+use crate::model::{load, Answer};
 
 const NAMES: [&str; 4] = ["levels", "fields", "constants", "nodes"];
 
@@ -22,8 +22,8 @@ fn takes(bytes: &[u8]) -> bool {
 
 fn lengths() -> Vec<WrongJudge> {
     vec![
-        WrongJudge::new("everything is taken", |_, _| DONE),
-        WrongJudge::new("everything is refused", |_, _| LENGTH),
+        WrongJudge::new("everything is taken", |_, _| Answer::plain(DONE)),
+        WrongJudge::new("everything is refused", |_, _| Answer::plain(LENGTH)),
         WrongJudge::confusing("nothing is taken", (LENGTH, DONE), |bytes| bytes.is_empty()),
         WrongJudge::confusing("bytes left are taken", (LENGTH, DONE), |bytes| {
             end_of_sections(bytes).is_some_and(|end| takes(&bytes[..end]))
@@ -105,12 +105,12 @@ fn too_narrow(name: String, section: usize, limit: usize) -> WrongJudge {
 /// Reads a count as if it had no high byte.
 fn low_byte_of_a_count(section: usize) -> WrongJudge {
     let name = format!("only the low byte of the count of {}", NAMES[section]);
-    WrongJudge::new(name, move |bytes, number| {
+    WrongJudge::new(name, move |bytes, answer| {
         let mut low = bytes.to_vec();
         match count_place(bytes, section).and_then(|place| low.get_mut(place + 1)) {
             Some(high_byte) if *high_byte > 0 => *high_byte = 0,
-            _ => return number,
+            _ => return answer,
         }
-        load(&low).number
+        load(&low)
     })
 }

@@ -1,7 +1,7 @@
 //! Runners wrong about the answer: units, places, or everything.
 
 use super::{Faults, Named, WrongRunner};
-use crate::model::number::{DONE, FUEL_USED_UP, NODE};
+use crate::model::number::{DONE, FUEL_USED_UP, NODE_RANGE, OUT_OF_RANGE, PARTIAL_TEST, STOPS};
 use crate::model::rules::MOST_FUEL;
 use crate::model::sheet::{Node, Sheet};
 use crate::model::{run, Answer, Call, Outcome};
@@ -17,7 +17,7 @@ pub fn runners() -> Vec<WrongRunner> {
 
 /// Whether the call has passed all checks.
 fn has_run(answer: Answer) -> bool {
-    answer.number == DONE || answer.number >= FUEL_USED_UP
+    answer.number == DONE || STOPS.contains(&answer.number)
 }
 
 const UNITS: Faults<Answering<Call>> = &[
@@ -30,7 +30,7 @@ const UNITS: Faults<Answering<Call>> = &[
         _ => Answer { units: 0, ..answer },
     }),
     ("a stopped node's unit not spent", |_, answer| Answer {
-        units: answer.units - u32::from(answer.number > FUEL_USED_UP),
+        units: answer.units - u32::from(matches!(answer.number, OUT_OF_RANGE..=PARTIAL_TEST)),
         ..answer
     }),
     ("used up fuel has spent a unit more", |_, answer| Answer {
@@ -61,7 +61,7 @@ const UNITS: Faults<Answering<Call>> = &[
 fn placing((name, wrong): Named<fn(&[Node], u16) -> u16>) -> WrongRunner {
     WrongRunner::new(name, move |call| {
         let mut right = run(call);
-        if right.answer.number >= FUEL_USED_UP {
+        if STOPS.contains(&right.answer.number) {
             let sheet = Sheet::read(&call.sheet).expect("a sheet that runs");
             right.answer.place = wrong(&sheet.nodes, right.answer.place);
         }
@@ -108,7 +108,7 @@ const RUN_AGAIN: Faults<Making<Call>> = &[
 
 const FIXED: Faults<Making<Call>> = &[
     ("every sheet refused", |_, _| {
-        Outcome::refused(Answer::plain(NODE))
+        Outcome::refused(Answer::plain(NODE_RANGE))
     }),
     ("every call done", |_, _| {
         Outcome::refused(Answer::plain(DONE))

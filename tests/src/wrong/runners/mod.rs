@@ -11,7 +11,9 @@ mod sheets;
 mod values;
 mod writes;
 
-use super::calls::{about_success, about_writes, in_rules, Faults, Named, Rulebook, Wrong};
+use super::calls::{
+    about_nodes, about_success, about_writes, in_rules, Faults, Named, Rulebook, Wrong,
+};
 use crate::model::rules::{Rules, DOCUMENT};
 use crate::model::run::{run_by, Start};
 use crate::model::{run, Call, Outcome, Sheet};
@@ -49,6 +51,7 @@ pub fn all() -> Vec<WrongRunner> {
     runners.extend(sheets::runners());
     runners.extend(answers::runners());
     runners.extend(writes::runners());
+    runners.extend(about_nodes());
     runners.extend(about_success());
     runners.extend(about_writes());
     runners

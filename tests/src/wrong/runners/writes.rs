@@ -1,7 +1,7 @@
 //! Runners wrong about what they write, on success and on refusal.
 
 use super::{Faults, WrongRunner};
-use crate::model::number::{FUEL_USED_UP, MARK, OUTPUT};
+use crate::model::number::{FUEL_USED_UP, MARK, OUTPUT, PARTIAL_TEST};
 use crate::model::rules::DOCUMENT;
 use crate::model::run::Start;
 use crate::model::Call;
@@ -45,7 +45,7 @@ const ON_REFUSAL: Faults<Spoiling<Call>> = &[
     (
         "the start store written on a stop",
         |call, answer| match answer.number {
-            FUEL_USED_UP.. => call.store.clone(),
+            FUEL_USED_UP..=PARTIAL_TEST => call.store.clone(),
             _ => Vec::new(),
         },
     ),
