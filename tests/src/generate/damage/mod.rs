@@ -12,7 +12,7 @@ mod tree;
 
 use super::write::Written;
 use super::{valid, Case};
-use crate::model::number::{COUNT, DONE, LENGTH, OF_NODES};
+use crate::model::number::{COUNT, DEPTH, DONE, LENGTH, OF_NODES, USE};
 use crate::model::sheet::Sheet;
 use crate::random::Random;
 use std::cmp::Reverse;
@@ -142,5 +142,10 @@ fn expected(damages: &[Damage]) -> Option<u8> {
     let beside = |&&number: &&u8| position(number) == position(first);
     let times = numbers.iter().filter(beside).count();
     let overtaken = first == LENGTH && numbers.contains(&COUNT);
-    (times == 1 && !overtaken).then_some(first)
+    // A second damage to the tree may make a node faulty by itself.
+    let trees = numbers
+        .iter()
+        .filter(|&&number| number == USE || number == DEPTH);
+    let in_doubt = OF_NODES.contains(&first) && trees.count() > 1;
+    (times == 1 && !overtaken && !in_doubt).then_some(first)
 }
