@@ -7,7 +7,7 @@ ghost use mathlib.Core.Path.{_≡_};
 ghost use mathlib.Core.Bool.{true, _&&_};
 ghost use Prim.Native.Nat.{ℕ, _≤_, _<_};
 ghost use lib.ListN.{length, getD};
-ghost use lib.Dec.{leb, ltb};
+ghost use lib.Dec.{ltb};
 ghost use Rattle.sheet.specs.Rows.{rowOf};
 ghost use Rattle.sheet.specs.Verdict.{passesOf};
 ghost use Rattle.sheet.specs.Nodes.{In, nodeCount, kindAt, opAt, placeAt, heldIn, isChild, known, operatorZero, zeroIn, rangeRight, ofSort, sortRight, placeRight, placesRight, nodeVerdict, nodesVerdict};
@@ -218,28 +218,16 @@ fn judge_node(nodes: &[u8], fields: usize, constants: usize, n: usize) -> Verdic
     Verdict::Passes
 }
 
-// Takes node w for an expression of node n, and counts it: it must be lower, and of that sort.
-fn take_expression(nodes: &[u8], n: usize, w: usize, used: &mut [u8]) -> bool
+// Takes node w for a child of node n, and counts it: it must be lower, and of the sort that the place holds.
+fn take_child(nodes: &[u8], n: usize, w: usize, held: Held, used: &mut [u8]) -> bool
     requires { ⌜ In (now nodes) n × (n ≤ length (now used)) ⌝ }
-    ensures { λ r. ⌜ (r ≡ (ltb w n && leb (kindAt (now (nodes .entry)) w) 4)) × (r ≡ true → now (used .exit) ≡ counted w (now (used .entry))) ⌝ }
+    ensures { λ r. ⌜ (r ≡ (ltb w n && ofSort held (kindAt (now (nodes .entry)) w))) × (r ≡ true → now (used .exit) ≡ counted w (now (used .entry))) ⌝ }
 {
     if n <= w {
         return false;
     }
     count_use(used, w);
-    kind_of(nodes, w) <= 4
-}
-
-// The same for a command.
-fn take_command(nodes: &[u8], n: usize, w: usize, used: &mut [u8]) -> bool
-    requires { ⌜ In (now nodes) n × (n ≤ length (now used)) ⌝ }
-    ensures { λ r. ⌜ (r ≡ (ltb w n && ltb 4 (kindAt (now (nodes .entry)) w))) × (r ≡ true → now (used .exit) ≡ counted w (now (used .entry))) ⌝ }
-{
-    if n <= w {
-        return false;
-    }
-    count_use(used, w);
-    4 < kind_of(nodes, w)
+    of_sort(held, kind_of(nodes, w))
 }
 
 // Whether node n is free of every fault, by its kind; its children are counted.
@@ -256,24 +244,24 @@ fn take_node(nodes: &[u8], fields: usize, constants: usize, n: usize, used: &mut
         0 => (op == 0) & (a < constants) & (b == 0) & (c == 0),
         1 => (op == 0) & (a < fields) & (b == 0) & (c == 0),
         2 => (op <= 9)
-            & take_expression(nodes, n, a, used)
-            & take_expression(nodes, n, b, used)
+            & take_child(nodes, n, a, Held::Expression, used)
+            & take_child(nodes, n, b, Held::Expression, used)
             & (c == 0),
-        3 => (op == 0) & take_expression(nodes, n, a, used) & (b == 0) & (c == 0),
-        4 => (op == 0) & take_expression(nodes, n, a, used) & (b == 0) & (c == 0),
+        3 => (op == 0) & take_child(nodes, n, a, Held::Expression, used) & (b == 0) & (c == 0),
+        4 => (op == 0) & take_child(nodes, n, a, Held::Expression, used) & (b == 0) & (c == 0),
         5 => (op == 0) & (a == 0) & (b == 0) & (c == 0),
-        6 => (op == 0) & (a < fields) & take_expression(nodes, n, b, used) & (c == 0),
+        6 => (op == 0) & (a < fields) & take_child(nodes, n, b, Held::Expression, used) & (c == 0),
         7 => (op == 0)
-            & take_command(nodes, n, a, used)
-            & take_command(nodes, n, b, used)
+            & take_child(nodes, n, a, Held::Command, used)
+            & take_child(nodes, n, b, Held::Command, used)
             & (c == 0),
         8 => (op == 0)
-            & take_expression(nodes, n, a, used)
-            & take_command(nodes, n, b, used)
-            & take_command(nodes, n, c, used),
+            & take_child(nodes, n, a, Held::Expression, used)
+            & take_child(nodes, n, b, Held::Command, used)
+            & take_child(nodes, n, c, Held::Command, used),
         9 => (op == 0)
-            & take_expression(nodes, n, a, used)
-            & take_command(nodes, n, b, used)
+            & take_child(nodes, n, a, Held::Expression, used)
+            & take_child(nodes, n, b, Held::Command, used)
             & (c == 0),
         _ => false,
     }

@@ -39,21 +39,21 @@ returns-3 c =
     let second = c .before .before in
     let first = second .before .before .before .before in
     let arm = first .before .before in
-    taken _ _ _ _ _ (read (arm .before) 2 (arm .match .keys3)) (an-operator _) (first .take-expression .ensures) (second .take-expression2 .ensures) no-child
+    taken _ _ _ _ _ (read (arm .before) 2 (arm .match .keys3)) (an-operator _) (first .take-child .ensures) (second .take-child2 .ensures) no-child
 
 returns-4 : tie.Need-returns-4
 unfolding known operatorZero heldIn kinds
 returns-4 c =
     let first = c .before .before in
     let arm = first .before .before in
-    taken _ _ _ _ _ (read (arm .before) 3 (arm .match .keys4)) refl (first .take-expression3 .ensures) no-child no-child
+    taken _ _ _ _ _ (read (arm .before) 3 (arm .match .keys4)) refl (first .take-child3 .ensures) no-child no-child
 
 returns-5 : tie.Need-returns-5
 unfolding known operatorZero heldIn kinds
 returns-5 c =
     let first = c .before .before in
     let arm = first .before .before in
-    taken _ _ _ _ _ (read (arm .before) 4 (arm .match .keys5)) refl (first .take-expression4 .ensures) no-child no-child
+    taken _ _ _ _ _ (read (arm .before) 4 (arm .match .keys5)) refl (first .take-child4 .ensures) no-child no-child
 
 returns-6 : tie.Need-returns-6
 unfolding known operatorZero heldIn kinds
@@ -64,7 +64,7 @@ unfolding known operatorZero heldIn kinds
 returns-7 c =
     let second = c .before .before in
     let arm = second .before .before in
-    taken _ _ _ _ _ (read (arm .before) 6 (arm .match .keys7)) refl no-child (second .take-expression5 .ensures) no-child
+    taken _ _ _ _ _ (read (arm .before) 6 (arm .match .keys7)) refl no-child (second .take-child5 .ensures) no-child
 
 returns-8 : tie.Need-returns-8
 unfolding known operatorZero heldIn kinds
@@ -72,7 +72,7 @@ returns-8 c =
     let second = c .before .before in
     let first = second .before .before .before .before in
     let arm = first .before .before in
-    taken _ _ _ _ _ (read (arm .before) 7 (arm .match .keys8)) refl (first .take-command .ensures) (second .take-command2 .ensures) no-child
+    taken _ _ _ _ _ (read (arm .before) 7 (arm .match .keys8)) refl (first .take-child6 .ensures) (second .take-child7 .ensures) no-child
 
 returns-9 : tie.Need-returns-9
 unfolding known operatorZero heldIn kinds
@@ -81,7 +81,7 @@ returns-9 c =
     let second = third .before .before .before .before in
     let first = second .before .before .before .before in
     let arm = first .before .before in
-    taken _ _ _ _ _ (read (arm .before) 8 (arm .match .keys9)) refl (first .take-expression6 .ensures) (second .take-command3 .ensures) (third .take-command4 .ensures)
+    taken _ _ _ _ _ (read (arm .before) 8 (arm .match .keys9)) refl (first .take-child8 .ensures) (second .take-child9 .ensures) (third .take-child10 .ensures)
 
 returns-10 : tie.Need-returns-10
 unfolding known operatorZero heldIn kinds
@@ -89,7 +89,7 @@ returns-10 c =
     let second = c .before .before in
     let first = second .before .before .before .before in
     let arm = first .before .before in
-    taken _ _ _ _ _ (read (arm .before) 9 (arm .match .keys10)) refl (first .take-expression7 .ensures) (second .take-command5 .ensures) no-child
+    taken _ _ _ _ _ (read (arm .before) 9 (arm .match .keys10)) refl (first .take-child11 .ensures) (second .take-child12 .ensures) no-child
 
 returns-11 : tie.Need-returns-11
 returns-11 c =
