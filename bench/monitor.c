@@ -459,9 +459,26 @@ static inline unsigned join_marks(const struct levels *levels, unsigned m, unsig
     return join(levels, level_of(m), level_of(k)) | ((m | k) & PARTIAL);
 }
 
+struct division {
+    int64_t quotient, remainder;
+};
+
+/* Rounds down. C drops the fraction toward zero; where something remains that has not the divisor's sign, the quotient
+ * is one less. In 64 bits the least by -1 does not overflow. */
+static inline struct division divide(int64_t x, int64_t y)
+{
+    struct division d = {x / y, x % y};
+    if (d.remainder != 0 && (d.remainder < 0) != (y < 0)) {
+        d.quotient--;
+        d.remainder += y;
+    }
+    return d;
+}
+
 /* What an operator gives, or the number that it stops with. */
 static inline unsigned apply(unsigned operator, int32_t x, int32_t y, int32_t *value)
 {
+    int64_t quotient;
     switch (operator) {
     case ADD:
         return __builtin_add_overflow(x, y, value) ? OUT_OF_RANGE : DONE;
@@ -470,13 +487,16 @@ static inline unsigned apply(unsigned operator, int32_t x, int32_t y, int32_t *v
     case MULTIPLY:
         return __builtin_mul_overflow(x, y, value) ? OUT_OF_RANGE : DONE;
     case DIVIDE:
-        if (y == -1)
-            return __builtin_sub_overflow(0, x, value) ? OUT_OF_RANGE : DONE;
-        *value = y != 0 ? x / y : 0;
-        return y != 0 ? DONE : DIVISOR_ZERO;
+        if (y == 0)
+            return DIVISOR_ZERO;
+        quotient = divide(x, y).quotient;
+        *value = (int32_t)quotient;
+        return *value == quotient ? DONE : OUT_OF_RANGE;
     case REMAINDER:
-        *value = y != 0 && y != -1 ? x % y : 0;
-        return y != 0 ? DONE : DIVISOR_ZERO;
+        if (y == 0)
+            return DIVISOR_ZERO;
+        *value = (int32_t)divide(x, y).remainder;
+        return DONE;
     case EQUAL:
         *value = x == y;
         return DONE;

@@ -1,4 +1,4 @@
-/* The monitor by hand in C, after document 01: what the archive's calls are measured against. */
+/* The monitor by hand in C, after documents 01 and 02: what the archive's calls are measured against. */
 #ifndef MONITOR_H
 #define MONITOR_H
 

@@ -1,4 +1,4 @@
-/* Document 01's trials and the faults of nodes, tried on the monitor by hand: a wrong C would be a wrong measure. */
+/* Document 01's trials, divisions and the faults of nodes, tried on the monitor by hand: a wrong C would be a wrong measure. */
 #include "beltuqash.h"
 #include "monitor.h"
 #include "sheets.h"
@@ -78,13 +78,30 @@ static void try_arithmetic(void)
     expect(is(work_out(INT32_MIN, SUBTRACT, 1), OUT_OF_RANGE, 2, 1), "least - 1: 13");
     expect(is(work_out(65536, MULTIPLY, 32768), OUT_OF_RANGE, 2, 1), "65536 * 32768: 13");
     expect(gives(65536, MULTIPLY, -32768, INT32_MIN), "65536 * -32768");
-    expect(is(work_out(INT32_MIN, DIVIDE, -1), OUT_OF_RANGE, 2, 1), "least / -1: 13");
-    expect(gives(INT32_MIN, REMAINDER, -1, 0), "least % -1 = 0");
-    expect(gives(-7, DIVIDE, 2, -3) && gives(-7, REMAINDER, 2, -1), "-7 / 2 = -3, -7 % 2 = -1");
-    expect(gives(7, DIVIDE, -2, -3) && gives(7, REMAINDER, -2, 1), "7 / -2 = -3, 7 % -2 = 1");
-    expect(gives(7, DIVIDE, -1, -7) && gives(-7, DIVIDE, -1, 7), "7 / -1, -7 / -1");
     expect(is(work_out(5, DIVIDE, 0), DIVISOR_ZERO, 2, 1), "5 / 0: 14");
     expect(is(work_out(5, REMAINDER, 0), DIVISOR_ZERO, 2, 1), "5 % 0: 14");
+}
+
+static bool divides(int32_t x, int32_t y, int32_t quotient, int32_t remainder)
+{
+    return gives(x, DIVIDE, y, quotient) && gives(x, REMAINDER, y, remainder);
+}
+
+static void try_division(void)
+{
+    expect(divides(-7, 2, -4, 1), "-7 / 2 = -4, -7 % 2 = 1");
+    expect(divides(7, -2, -4, -1), "7 / -2 = -4, 7 % -2 = -1");
+    expect(divides(7, 2, 3, 1) && divides(-7, -2, 3, -1), "7 by 2, -7 by -2");
+    expect(divides(6, 2, 3, 0) && divides(-6, -2, 3, 0), "6 by 2, -6 by -2");
+    expect(divides(-6, 2, -3, 0) && divides(6, -2, -3, 0), "-6 by 2, 6 by -2");
+    expect(divides(7, -1, -7, 0) && divides(-7, -1, 7, 0), "7 by -1, -7 by -1");
+    expect(is(work_out(INT32_MIN, DIVIDE, -1), OUT_OF_RANGE, 2, 1), "least / -1: 13");
+    expect(gives(INT32_MIN, REMAINDER, -1, 0), "least % -1 = 0");
+    expect(divides(INT32_MIN, 1, INT32_MIN, 0) && divides(INT32_MIN, INT32_MIN, 1, 0), "least by 1 and by itself");
+    expect(divides(INT32_MIN, 3, -715827883, 1) && divides(INT32_MIN, -3, 715827882, -2), "least by 3 and by -3");
+    expect(divides(INT32_MAX, 2, 1073741823, 1) && divides(INT32_MAX, -2, -1073741824, -1), "greatest by 2 and by -2");
+    expect(divides(INT32_MIN, INT32_MAX, -2, INT32_MAX - 1), "least by greatest");
+    expect(divides(INT32_MAX, INT32_MIN, -1, -1), "greatest by least");
 }
 
 static void try_tests(void)
@@ -331,6 +348,7 @@ static void try_example(void)
 int main(void)
 {
     try_arithmetic();
+    try_division();
     try_tests();
     try_marks();
     try_flag();
@@ -342,6 +360,6 @@ int main(void)
     try_order_of_faults();
     try_example();
     if (wrong == 0)
-        printf("monitor.c does what document 01's trials say\n");
+        printf("monitor.c does what its trials say\n");
     return wrong == 0 ? EXIT_SUCCESS : EXIT_FAILURE;
 }

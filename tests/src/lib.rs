@@ -1,6 +1,6 @@
 //! Tests of Beltuqash from the outside: a model of its calls written from
-//! document 01 alone, a generator of sheets and calls, the comparison of the model
-//! with whoever else answers them, and a search for what a reader may not see.
+//! documents 01 and 02 alone, a generator of sheets and calls, the comparison of the
+//! model with whoever else answers them, and a search for what a reader may not see.
 
 pub mod by_hand;
 pub mod compare;

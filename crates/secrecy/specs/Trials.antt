@@ -1,4 +1,5 @@
--- Document 01's trials that are proved, marked (p) there: one table, one theorem. A row is what is asked and what comes back.
+-- Document 01's trials that are proved, marked (p) there, and the divisions of document 02, "Two": one table, one theorem. A row is what is
+-- asked and what comes back.
 use Prim.Native.Nat.{ℕ, _/_}
 use mathlib.Core.Path.{_≡_, refl}
 use mathlib.Core.List.{List, [], _∷_, _++_, map}
@@ -76,8 +77,9 @@ pub trials : Mark → List Trial
 trials m =
     (operator 0 (pos 2147483647) (pos 1) gives number 13)  -- 2,147,483,647 + 1
     ∷ (operator 3 (negℤ (pos 2147483648)) (negℤ (pos 1)) gives number 13)  -- -2,147,483,648 / -1
-    ∷ (operator 3 (negℤ (pos 7)) (pos 2) gives value (negℤ (pos 3)))  -- -7 / 2
-    ∷ (operator 4 (negℤ (pos 7)) (pos 2) gives value (negℤ (pos 1)))  -- -7 % 2
+    ∷ (operator 3 (negℤ (pos 7)) (pos 2) gives value (negℤ (pos 4)))  -- -7 / 2
+    ∷ (operator 4 (negℤ (pos 7)) (pos 2) gives value (pos 1))  -- -7 % 2
+    ∷ (operator 4 (pos 7) (negℤ (pos 2)) gives value (negℤ (pos 1)))  -- 7 % -2
     ∷ (operator 3 (pos 5) (pos 0) gives number 14)  -- 5 / 0
     ∷ (join (whole 1) (partial 2) gives mark (partial 3))  -- whole 1 joined with partial 2
     ∷ (assign 1 (whole 2) m gives mark (partial 0))  -- context 1 into whole 2

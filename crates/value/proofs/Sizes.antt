@@ -1,17 +1,17 @@
--- How large a result is: a sum is no larger than both sizes together, and a product, a quotient and a remainder have the product, the
--- quotient and the remainder of the sizes. So 64 bits hold every result of two values.
+-- How large a result is: a sum is no larger than both sizes together, a product has the product of the sizes, and a quotient is no larger
+-- than the dividend. So 64 bits hold every result of two values.
 use mathlib.Core.Path.{_≡_, refl, sym, _∙_}
 use mathlib.Core.Bool.{Bool, true, false, cond, _&&_, and-true}
-use Prim.Native.Nat.{ℕ, zero, suc, _+_, _*_, _-_, _/_, _%_, _≤_}
-use native.Mathlib.Nat.{div-le-self, mod-le, mul-le-mul}
+use Prim.Native.Nat.{ℕ, zero, suc, _+_, _*_, _-_, _≤_, _<_, suc-le-suc}
+use native.Mathlib.Nat.{div-le-self, le-trans, mul-le-mul}
 use native.Mathlib.Omega.{arith}
 use borrow.Author.Tests.{ltb-true, leb-true}
 use lib.Dec.{ltb}
 use lib.IntN.{ℤ, pos, negsuc, negℤ, natAbs, subℕ, _+ℤ_, _-ℤ_, _*ℤ_}
-use lib.Signed.{natAbs-le, leZ, quotZ, remZ}
+use lib.Signed.{natAbs-le, leZ}
 use mir.Syntax.{w32, w64}
 use mir.Val.{SFits}
-use Rattle.value.specs.Values.{least, greatest}
+use Rattle.value.specs.Values.{least, greatest, floor, quot, rest}
 
 size-neg : (n : ℕ) → natAbs (negℤ (pos n)) ≡ n
 size-neg zero = refl
@@ -40,18 +40,16 @@ size-product (pos a) (negsuc b) = size-neg (a * suc b)
 size-product (negsuc a) (pos b) = size-neg (suc a * b)
 size-product (negsuc a) (negsuc b) = refl
 
-pub size-quot : (x y : ℤ) → natAbs (quotZ x y) ≡ natAbs x / natAbs y
-size-quot (pos a) (pos b) = refl
-size-quot (pos a) (negsuc b) = size-neg (a / suc b)
-size-quot (negsuc a) (pos b) = size-neg (suc a / b)
-size-quot (negsuc a) (negsuc b) = refl
+size-floor : (x : ℤ) (b : ℕ) → natAbs (floor x b) ≤ natAbs x
+size-floor (pos a) b = div-le-self a b
+size-floor (negsuc a) b = suc-le-suc (div-le-self a b)
 
-pub size-rem : (x y : ℤ) → natAbs (remZ x y) ≡ natAbs x % natAbs y
-size-rem (pos a) y = refl
-size-rem (negsuc a) y = size-neg (suc a % natAbs y)
+pub size-quot : (x y : ℤ) → natAbs (quot x y) ≤ natAbs x
+size-quot x (pos b) = size-floor x b
+size-quot x (negsuc b) = omega (arith, size-floor (negℤ x) (suc b), size-negated x)
 
 -- ---- what fits
-fits : (z : ℤ) → natAbs z ≤ 2147483648 * 2147483648 → SFits w64 z
+fits : (z : ℤ) → natAbs z < 9223372036854775808 → SFits w64 z
 fits (pos n) h = record { sfits = omega arith }
 fits (negsuc n) h = record { sfits = omega arith }
 
@@ -69,13 +67,20 @@ module _ (x y : ℤ) (fx : SFits w32 x) (fy : SFits w32 y) where
   difference-fits = fits (x -ℤ y) (omega (arith, size-sum x (negℤ y), size-negated y, left, right))
 
   pub product-fits : SFits w64 (x *ℤ y)
-  product-fits = fits (x *ℤ y) (rw (size-product x y) (mul-le-mul left right))
+  product-fits = fits (x *ℤ y) (omega (arith, size-product x y, mul-le-mul left right))
 
-  pub quot-fits : SFits w64 (quotZ x y)
-  quot-fits = fits (quotZ x y) (omega (arith, size-quot x y, div-le-self (natAbs x) (natAbs y), left))
+  pub quot-fits : SFits w64 (quot x y)
+  quot-fits = fits (quot x y) (omega (arith, size-quot x y, left))
 
-  pub rem-fits : SFits w64 (remZ x y)
-  rem-fits = fits (remZ x y) (omega (arith, size-rem x y, mod-le (natAbs x) (natAbs y), left))
+  -- what the quotient takes away
+  size-taken : natAbs (quot x y *ℤ y) ≤ 2147483648 * 2147483648
+  size-taken = rw (size-product (quot x y) y) (mul-le-mul (le-trans (size-quot x y) left) right)
+
+  pub taken-fits : SFits w64 (quot x y *ℤ y)
+  taken-fits = fits (quot x y *ℤ y) (omega (arith, size-taken))
+
+  pub rest-fits : SFits w64 (rest x y)
+  rest-fits = fits (rest x y) (omega (arith, size-sum x (negℤ (quot x y *ℤ y)), size-negated (quot x y *ℤ y), size-taken, left))
 
 -- a number from the least to the greatest is a value
 pub inside-fits : (z : ℤ) → (leZ least z && leZ z greatest) ≡ true → SFits w32 z

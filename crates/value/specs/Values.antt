@@ -1,12 +1,12 @@
 -- Document 01, "Values": what each operator gives. Numbers are exact integers here, and a result that is no value is refused.
--- `operatorOf` is the whole of it; `quot` and `rest` are all that is said of division.
-use Prim.Native.Nat.{ℕ}
+-- Division is document 02's, "Two". `operatorOf` is the whole of it.
+use Prim.Native.Nat.{ℕ, suc, _/_}
 use mathlib.Core.Bool.{Bool, false, not, cond, _&&_, _||_}
 use mathlib.Core.List.{[], _∷_}
 use lib.Dec.{eqb}
 use lib.IntN.{ℤ, pos, negsuc, negℤ, _+ℤ_, _-ℤ_, _*ℤ_}
 use lib.ListN.{getD}
-use lib.Signed.{ltZ, leZ, quotZ, remZ}
+use lib.Signed.{ltZ, leZ}
 use Rattle.value.specs.declared.Value.{Value}
 use Rattle.value.specs.declared.Computed.{Computed}
 use Rattle.value.specs.declared.Computed.the-variants.{Is, OutOfRange, DivisorZero}
@@ -31,13 +31,25 @@ differenceOf x y = exactly (x .n -ℤ y .n)
 abbrev pub productOf : Value → Value → Computed
 productOf x y = exactly (x .n *ℤ y .n)
 
--- Division drops the fraction toward zero
-abbrev pub quot : ℤ → ℤ → ℤ
-quot x y = quotZ x y
+-- Division gives the greatest whole number not above the exact quotient: for -(a + 1) and b that is -(a / b + 1),
+abbrev pub floor : ℤ → ℕ → ℤ
+floor (pos a) b = pos (a / b)
+floor (negsuc a) b = negsuc (a / b)
 
--- and the remainder takes the dividend's sign.
+-- and x / y is -x / -y.
+abbrev pub quot : ℤ → ℤ → ℤ
+quot x (pos b) = floor x b
+quot x (negsuc b) = floor (negℤ x) (suc b)
+
+-- The remainder, with the divisor's sign, is what the quotient leaves of the dividend.
 abbrev pub rest : ℤ → ℤ → ℤ
-rest x y = remZ x y
+rest x y = x -ℤ quot x y *ℤ y
+
+-- That the quotient is the greatest, and the remainder's sign, are theorems (`Dividing`). They say that q is not above the exact quotient of
+-- x and y if q times y is not above x, or not below x where y is below zero.
+abbrev pub notAbove : ℤ → ℤ → ℤ → Bool
+notAbove q x (pos b) = leZ (q *ℤ pos b) x
+notAbove q x (negsuc b) = leZ x (q *ℤ negsuc b)
 
 -- whether two numbers are equal, beside the library's `ltZ` (less) and `leZ` (at most)
 abbrev pub eqZ : ℤ → ℤ → Bool

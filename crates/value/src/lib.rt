@@ -1,10 +1,14 @@
 // Values: the signed 32-bit numbers of a sheet, with constants, constructors from and to bytes, and the operators' checked functions.
-// A result is exact, or `Computed` says why there is none. It is worked out at 64 bits, which hold every sum, product and quotient
-// of two values, and narrowed in one place, `exact`.
+// A result is exact, or `Computed` says why there is none. It is worked out at 64 bits, which hold every result of two values, and
+// narrowed in one place, `exact`.
+ghost use mathlib.Core.Bool.{false, cond};
 ghost use mathlib.Core.Path.{_≡_};
+ghost use lib.IntN.{pos, negsuc, negℤ, natAbs, _-ℤ_};
+ghost use lib.Signed.{_<ℤ_};
 ghost use mir.Syntax.{w32};
 ghost use mir.Val.{SFits};
 ghost use Rattle.value.specs.Values.{exactly, sumOf, differenceOf, productOf, quotientOf, remainderOf, operatorOf};
+ghost use Rattle.value.specs.Values.{eqZ, floor, quot};
 ghost use Rattle.value.specs.Values.{truth, equalOf, lessOf, atMostOf, isTrue, andOf, orOf, notOf};
 ghost use Rattle.value.specs.Bytes.{ofBits, bitsOf, ofBytes, bytesOf};
 
@@ -99,6 +103,39 @@ impl Value {
         }
     }
 
+    // The number or, if `negated`, its negative.
+    fn signed(self, negated: bool) -> i64
+        ensures { λ r. ⌜ r ≡ cond negated (negℤ (self .n)) (self .n) ⌝ }
+    {
+        let z = self.wide();
+        if negated { 0 - z } else { z }
+    }
+
+    // The quotient rounded down, where the divisor is not 0: x / y is -x / -y.
+    fn quot(self, divisor: Value) -> i64
+        requires { ⌜ eqZ (divisor .n) (pos 0) ≡ false ⌝ }
+        ensures { λ r. ⌜ r ≡ quot (self .n) (divisor .n) ⌝ }
+    {
+        let below = divisor.wide() < 0;
+        Value::floor(self.signed(below), divisor.signed(below))
+    }
+
+    // The same over a divisor above zero. `/` drops a fraction, which rounds down from zero on; x below zero is turned there and back.
+    fn floor(x: i64, b: i64) -> i64
+        requires { ⌜ pos 0 <ℤ b ⌝ }
+        ensures { λ r. ⌜ r ≡ floor x (natAbs b) ⌝ }
+    {
+        let below = x < 0;
+        Value::turned(Value::turned(x, below) / b, below)
+    }
+
+    // -1 - z if `below`, which makes a of -(a + 1) and -(a + 1) of a; otherwise z.
+    fn turned(z: i64, below: bool) -> i64
+        ensures { λ r. ⌜ r ≡ cond below (negsuc 0 -ℤ z) z ⌝ }
+    {
+        if below { -1 - z } else { z }
+    }
+
     // The operators, in the order of their numbers.
     pub fn sum(self, right: Value) -> Computed
         ensures { λ r. ⌜ r ≡ sumOf self right ⌝ }
@@ -125,7 +162,7 @@ impl Value {
         if d == 0 {
             return Computed::DivisorZero;
         }
-        Value::exact(self.wide() / d)
+        Value::exact(self.quot(divisor))
     }
 
     pub fn remainder(self, divisor: Value) -> Computed
@@ -135,7 +172,7 @@ impl Value {
         if d == 0 {
             return Computed::DivisorZero;
         }
-        Value::exact(self.wide() % d)
+        Value::exact(self.wide() - self.quot(divisor) * d)
     }
 
     pub fn equal(self, right: Value) -> Value

@@ -14,18 +14,19 @@ pub trait Compared: Generated + Clone {
     /// What such a call is called where it can be replayed.
     const NAME: &'static str;
 
-    /// How often each number came back.
+    /// How often each number came back, and what else is counted.
     type Histogram: Default;
 
     /// What the model makes of the call.
     fn outcome(&self) -> Outcome;
 
+    /// The same, counted.
+    fn counted(&self, histogram: &mut Self::Histogram) -> Outcome;
+
     fn sheet(&self) -> &[u8];
 
     /// What stands in the output before the call.
     fn output_before(&self) -> &[u8];
-
-    fn count(&self, histogram: &mut Self::Histogram, number: u8);
 
     /// Writes what the call asks, a line each.
     fn describe(&self, out: &mut fmt::Formatter) -> fmt::Result;
@@ -60,10 +61,9 @@ pub fn compare<C: Compared>(
     let mut histogram = C::Histogram::default();
     for index in indexes {
         let CallCase { call, expected } = call_case::<C>(seed, index);
-        let model = call.outcome();
+        let model = call.counted(&mut histogram);
         let found = other(&call);
-        let number = model.answer.number;
-        if found != call.effect(&model) || !expected.allows(number) {
+        if found != call.effect(&model) || !expected.allows(model.answer.number) {
             return Err(Box::new(Difference {
                 seed,
                 index,
@@ -73,7 +73,6 @@ pub fn compare<C: Compared>(
                 found,
             }));
         }
-        call.count(&mut histogram, number);
     }
     Ok(histogram)
 }

@@ -17,16 +17,18 @@ impl Compared for HandOut {
         hand_out(self)
     }
 
+    fn counted(&self, histogram: &mut Times) -> Outcome {
+        let outcome = self.outcome();
+        histogram[usize::from(outcome.answer.number)] += 1;
+        outcome
+    }
+
     fn sheet(&self) -> &[u8] {
         &self.sheet
     }
 
     fn output_before(&self) -> &[u8] {
         &self.output
-    }
-
-    fn count(&self, histogram: &mut Times, number: u8) {
-        histogram[usize::from(number)] += 1;
     }
 
     fn describe(&self, out: &mut fmt::Formatter) -> fmt::Result {

@@ -2,6 +2,7 @@
 //! with any judge of sheets, its run and hand-out with whoever answers such calls.
 
 pub mod calls;
+pub mod divisions;
 pub mod effect;
 pub mod hand_out;
 pub mod load;

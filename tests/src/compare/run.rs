@@ -1,16 +1,32 @@
 //! What is compared of run.
 
 use super::calls::Compared;
+use super::divisions::{Divided, Divisions};
 use super::{hex, Times};
+use crate::model::rules::DOCUMENT;
+use crate::model::run::run_watched;
 use crate::model::{run, Call, Outcome};
 use std::fmt;
 
-/// How often each number came back: in all and by mode.
+/// How often each number came back, in all and by mode, and the divisions.
 #[derive(Clone, Debug, Default)]
 pub struct Histogram {
     pub all: Times,
     pub strict: Times,
     pub permissive: Times,
+    pub divisions: Divisions,
+}
+
+impl Histogram {
+    fn count(&mut self, mode: u32, number: u8) {
+        let number = usize::from(number);
+        self.all[number] += 1;
+        match mode {
+            0 => self.strict[number] += 1,
+            1 => self.permissive[number] += 1,
+            _ => {}
+        }
+    }
 }
 
 /// Run gives 0, 10, load's, 8, 9, 11 and 12 to 16.
@@ -27,22 +43,21 @@ impl Compared for Call {
         run(self)
     }
 
+    fn counted(&self, histogram: &mut Histogram) -> Outcome {
+        let divided = Divided::default();
+        let watch = |operator, left, right| divided.see(operator, left, right);
+        let outcome = run_watched(&DOCUMENT, self, &watch);
+        histogram.count(self.mode, outcome.answer.number);
+        histogram.divisions.count(&divided);
+        outcome
+    }
+
     fn sheet(&self) -> &[u8] {
         &self.sheet
     }
 
     fn output_before(&self) -> &[u8] {
         &self.output
-    }
-
-    fn count(&self, histogram: &mut Histogram, number: u8) {
-        let number = usize::from(number);
-        histogram.all[number] += 1;
-        match self.mode {
-            0 => histogram.strict[number] += 1,
-            1 => histogram.permissive[number] += 1,
-            _ => {}
-        }
     }
 
     fn describe(&self, out: &mut fmt::Formatter) -> fmt::Result {
@@ -64,12 +79,16 @@ mod tests {
             all,
             strict,
             permissive,
+            divisions,
         } = with_itself::<Call>(10_000);
         let counted = NUMBERS.map(|number| all[number]);
         assert_eq!(counted.iter().sum::<u64>(), 10_000);
         assert!(counted.iter().all(|&times| times > 40), "{all:?}");
         let done = usize::from(number::DONE);
         assert!(strict[done] > 400 && permissive[done] > 400);
+        for (kind, times) in divisions.each() {
+            assert!(times.iter().all(|&times| times > 20), "{kind}: {times:?}");
+        }
     }
 
     #[test]

@@ -8,6 +8,7 @@ use super::run::{Mode, Start};
 use super::sheet::Sheet;
 use super::store::{Marked, Store};
 use super::typed::{Command, Expression};
+use super::values::Operator;
 
 /// Why and where a run stops.
 #[derive(Clone, Copy, Debug, PartialEq, Eq)]
@@ -24,9 +25,13 @@ fn at<T>(place: usize, result: Result<T, u8>) -> Result<T, Stop> {
 /// Odd, so that two ways hardly ever have the same number.
 const WAY_STEP: u64 = 0x9e37_79b9_7f4a_7c15;
 
+/// Sees each operator that gives a result, with its two values.
+pub type Watch<'a> = &'a dyn Fn(Operator, i64, i64);
+
 /// A run under way.
 pub struct Run<'a> {
     rules: &'a Rules,
+    watch: Watch<'a>,
     sheet: &'a Sheet,
     mode: Mode,
     context: usize,
@@ -37,9 +42,10 @@ pub struct Run<'a> {
 }
 
 impl<'a> Run<'a> {
-    pub fn start(rules: &'a Rules, start: &'a Start) -> Run<'a> {
+    pub fn start(rules: &'a Rules, start: &'a Start, watch: Watch<'a>) -> Run<'a> {
         Run {
             rules,
+            watch,
             sheet: &start.sheet,
             mode: start.mode,
             context: (rules.first_context)(&start.sheet.levels),
@@ -67,8 +73,10 @@ impl Run<'_> {
             } => {
                 let (left, right) = (self.rules.both_sides)(self, operator, left, right)?;
                 let result = (self.rules.operate)(operator, left.value, right.value);
+                let value = at(node, result)?;
+                (self.watch)(operator, left.value, right.value);
                 Ok(Marked {
-                    value: at(node, result)?,
+                    value,
                     mark: Mark {
                         level: (self.rules.level_of_operator)(levels, left.mark, right.mark),
                         partial: (self.rules.operator_is_partial)(left.mark, right.mark),

@@ -4,7 +4,7 @@
 
 use super::answer::number::{DONE, MARK, MODE_OR_FUEL, OUTPUT, STORE};
 use super::answer::Answer;
-use super::follow::{Run, Stop};
+use super::follow::{Run, Stop, Watch};
 use super::judged;
 use super::rules::{Rules, DOCUMENT};
 use super::sheet::Sheet;
@@ -53,11 +53,18 @@ pub fn run(call: &Call) -> Outcome {
 
 /// Run by these rules.
 pub fn run_by(rules: &Rules, call: &Call) -> Outcome {
+    run_watched(rules, call, UNWATCHED)
+}
+
+/// Run by these rules, watched.
+pub fn run_watched(rules: &Rules, call: &Call, watch: Watch) -> Outcome {
     match Start::checked(rules, call) {
-        Ok(start) => start.run(rules).outcome(),
+        Ok(start) => start.run_watched(rules, watch).outcome(),
         Err(refusal) => Outcome::refused(refusal),
     }
 }
+
+const UNWATCHED: Watch = &|_, _, _| {};
 
 /// A call that has passed the checks.
 pub struct Start {
@@ -97,8 +104,13 @@ impl Start {
 
     /// Follows the last node, which is the whole command.
     pub fn run(self, rules: &Rules) -> End {
+        self.run_watched(rules, UNWATCHED)
+    }
+
+    /// The same, watched.
+    fn run_watched(self, rules: &Rules, watch: Watch) -> End {
         let last = self.sheet.nodes.len() - 1;
-        let mut run = Run::start(rules, &self);
+        let mut run = Run::start(rules, &self, watch);
         let stop = run.command(last).err();
         End {
             stop,

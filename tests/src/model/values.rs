@@ -37,8 +37,8 @@ pub fn operate(operator: Operator, left: i64, right: i64) -> Result<i64, u8> {
         Plus => in_range(left + right),
         Minus => in_range(left - right),
         Times => in_range(left * right),
-        Divide => in_range(left / divisor(right)?),
-        Remainder => in_range(left % divisor(right)?),
+        Divide => in_range(quotient(left, divisor(right)?)),
+        Remainder => in_range(remainder(left, divisor(right)?)),
         Equal => Ok(truth(left == right)),
         Less => Ok(truth(left < right)),
         AtMost => Ok(truth(left <= right)),
@@ -69,11 +69,32 @@ pub fn in_range(result: i64) -> Result<i64, u8> {
     }
 }
 
-/// Row 14: divisor 0. Rust's `/` drops the fraction toward zero, and its `%`
-/// takes the dividend's sign.
+/// Row 14: divisor 0.
 fn divisor(right: i64) -> Result<i64, u8> {
     match right {
         0 => Err(DIVISOR),
         _ => Ok(right),
     }
+}
+
+/// The greatest whole number not above the exact quotient. Rust's `/` drops the
+/// fraction toward zero, so it is less than 1 away from the exact quotient.
+pub fn quotient(dividend: i64, divisor: i64) -> i64 {
+    let near = dividend / divisor;
+    let not_above = (near - 1..=near + 1).filter(|&whole| is_not_above(whole, dividend, divisor));
+    not_above.max().expect("one less is never above")
+}
+
+/// Whether a whole number is not above the exact quotient. Both are multiplied by
+/// the divisor; one below zero turns their order round.
+fn is_not_above(whole: i64, dividend: i64, divisor: i64) -> bool {
+    match divisor < 0 {
+        true => whole * divisor >= dividend,
+        false => whole * divisor <= dividend,
+    }
+}
+
+/// What the quotient leaves of the dividend; it takes the divisor's sign.
+fn remainder(dividend: i64, divisor: i64) -> i64 {
+    dividend - quotient(dividend, divisor) * divisor
 }

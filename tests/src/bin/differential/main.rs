@@ -17,7 +17,7 @@ use std::ops::Range;
 use std::process::ExitCode;
 use std::time::Instant;
 
-/// How often each number must come back, and each kind of pair come up.
+/// How often each number must come back, each kind of division and of pair come up.
 const LEAST_TIMES: u64 = 1_000;
 
 fn main() -> ExitCode {
@@ -70,12 +70,15 @@ fn load_passes(seed: u64, sheets: u64) -> bool {
     times.is_some_and(|times| often_enough(&load::NUMBERS.map(|number| times[number])))
 }
 
-/// Every number, and success in both modes.
+/// Every number, success in both modes, and every kind of division.
 fn run_passes(seed: u64, calls: u64) -> bool {
     compare_run(seed, 0..calls).is_some_and(|times| {
         let done = usize::from(DONE);
+        let divided = times.divisions.each().flat_map(|(_, times)| times);
+        let divided: Vec<u64> = divided.collect();
         often_enough(&run::NUMBERS.map(|number| times.all[number]))
             && often_enough(&[times.strict[done], times.permissive[done]])
+            && often_enough(&divided)
     })
 }
 
@@ -133,6 +136,9 @@ fn compare_run(seed: u64, indexes: Range<u64>) -> Option<run::Histogram> {
         println!(
             "run, number {number:>2}: {times:>8}, strict {strict:>8}, permissive {permissive:>8}"
         );
+    }
+    for (kind, [quotient, remainder]) in histogram.divisions.each() {
+        println!("run, {kind}: / {quotient:>8}, % {remainder:>8}");
     }
     let calls = histogram.all.iter().sum();
     all_passed(calls, "runs without a difference", start);

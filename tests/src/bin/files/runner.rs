@@ -1,5 +1,5 @@
 //! The runner program's cases: a file, and the text that it must print, written
-//! by hand from document 01. Places are node numbers of the sheets below.
+//! by hand from documents 01 and 02. Places are node numbers of the sheets below.
 
 use crate::parts::{name, node, operator, plain, with_nodes, SKIP};
 use crate::samples::{flag, name_twice, runners, sealed_flag};
@@ -196,8 +196,22 @@ fn values() -> Vec<Case> {
         case(name, file(STRICT, 9, &sheet, &store(&[(0, q)])), text)
     };
     vec![
-        worked_out("quotient", DIVIDE, 2, -7, "done 1\nq 0 whole -3\n"),
-        worked_out("remainder", REMAINDER, 2, -7, "done 1\nq 0 whole -1\n"),
+        worked_out("quotient", DIVIDE, 2, -7, "done 1\nq 0 whole -4\n"),
+        worked_out("remainder", REMAINDER, 2, -7, "done 1\nq 0 whole 1\n"),
+        worked_out(
+            "remainder-by-less-than-0",
+            REMAINDER,
+            -2,
+            7,
+            "done 1\nq 0 whole -1\n",
+        ),
+        worked_out(
+            "remainder-of-the-least",
+            REMAINDER,
+            -1,
+            LEAST,
+            "done 1\nq 0 whole 0\n",
+        ),
         worked_out("sum-13", PLUS, 1, GREATEST, "refused 13 2 1\n"),
         worked_out("quotient-13", DIVIDE, -1, LEAST, "refused 13 2 1\n"),
         worked_out("quotient-14", DIVIDE, 0, 5, "refused 14 2 1\n"),

@@ -32,8 +32,9 @@ const GREATEST: i32 = 2_147_483_647;
 fn the_documents_values() {
     gives(PLUS, GREATEST, 1, RANGE);
     gives(DIVIDE, LEAST, -1, RANGE);
-    gives(DIVIDE, -7, 2, Ok(-3));
-    gives(REMAINDER, -7, 2, Ok(-1));
+    gives(DIVIDE, -7, 2, Ok(-4));
+    gives(REMAINDER, -7, 2, Ok(1));
+    gives(REMAINDER, 7, -2, Ok(-1));
     gives(DIVIDE, 5, 0, ZERO);
 }
 
@@ -56,31 +57,70 @@ fn sums_differences_and_products() {
     gives(TIMES, 65_536, 65_536, RANGE);
 }
 
+#[track_caller]
+fn divides(left: i32, right: i32, quotient: i32, remainder: i32) {
+    gives(DIVIDE, left, right, Ok(quotient));
+    gives(REMAINDER, left, right, Ok(remainder));
+}
+
 #[test]
 fn quotients_and_remainders() {
     for (left, right, quotient, remainder) in [
         (7, 2, 3, 1),
-        (7, -2, -3, 1),
-        (-7, 2, -3, -1),
+        (7, -2, -4, -1),
+        (-7, 2, -4, 1),
         (-7, -2, 3, -1),
+        (8, 3, 2, 2),
+        (8, -3, -3, -1),
+        (-8, 3, -3, 1),
+        (-8, -3, 2, -2),
         (1, 2, 0, 1),
-        (-1, 2, 0, -1),
+        (1, -2, -1, -1),
+        (-1, 2, -1, 1),
+        (-1, -2, 0, -1),
+        (6, 2, 3, 0),
+        (6, -2, -3, 0),
+        (-6, 2, -3, 0),
+        (-6, -2, 3, 0),
+        (0, 5, 0, 0),
         (0, -5, 0, 0),
-        (LEAST, 1, LEAST, 0),
-        (LEAST, 2, -1_073_741_824, 0),
-        (LEAST, GREATEST, -1, -1),
-        (LEAST, LEAST, 1, 0),
-        (GREATEST, LEAST, 0, GREATEST),
-        (GREATEST, -1, -GREATEST, 0),
     ] {
-        gives(DIVIDE, left, right, Ok(quotient));
-        gives(REMAINDER, left, right, Ok(remainder));
+        divides(left, right, quotient, remainder);
     }
     for left in [0, 5, -5, LEAST, GREATEST] {
         gives(DIVIDE, left, 0, ZERO);
         gives(REMAINDER, left, 0, ZERO);
     }
+}
+
+#[test]
+fn quotients_and_remainders_at_the_ends() {
+    for (left, right, quotient, remainder) in [
+        (LEAST, 1, LEAST, 0),
+        (LEAST, 2, -1_073_741_824, 0),
+        (LEAST, -2, 1_073_741_824, 0),
+        (LEAST, 3, -715_827_883, 1),
+        (LEAST, -3, 715_827_882, -2),
+        (LEAST, GREATEST, -2, 2_147_483_646),
+        (LEAST, LEAST, 1, 0),
+        (GREATEST, 1, GREATEST, 0),
+        (GREATEST, -1, -2_147_483_647, 0),
+        (GREATEST, 2, 1_073_741_823, 1),
+        (GREATEST, -2, -1_073_741_824, -1),
+        (GREATEST, GREATEST, 1, 0),
+        (GREATEST, LEAST, -1, -1),
+        (1, LEAST, -1, -2_147_483_647),
+        (0, LEAST, 0, 0),
+        (-1, LEAST, 0, -1),
+        (1, GREATEST, 0, 1),
+        (0, GREATEST, 0, 0),
+        (-1, GREATEST, -1, 2_147_483_646),
+        (-2_147_483_647, GREATEST, -1, 0),
+    ] {
+        divides(left, right, quotient, remainder);
+    }
     // The exact remainder is 0, although the quotient is out of range.
+    gives(DIVIDE, LEAST, -1, RANGE);
     gives(REMAINDER, LEAST, -1, Ok(0));
 }
 

@@ -5,11 +5,19 @@ use super::{in_rules, Faults, WrongRunner};
 use crate::model::follow::{Run, Stop};
 use crate::model::number::{DIVISOR, OUT_OF_RANGE};
 use crate::model::rules::Sides;
-use crate::model::values::{operate, Operator, GREATEST, LEAST};
+use crate::model::values::{in_range, operate, quotient, Operator, GREATEST, LEAST};
 use Operator::*;
 
 pub fn runners() -> Vec<WrongRunner> {
-    let operators = [RANGES, DIVISIONS, COMPARISONS, AND_OR].concat();
+    let operators = [
+        RANGES,
+        QUOTIENTS,
+        REMAINDERS,
+        DIVISIONS,
+        COMPARISONS,
+        AND_OR,
+    ]
+    .concat();
     in_rules! {
         crate::model::rules;
         operate: &operators,
@@ -40,7 +48,7 @@ const RANGES: Faults<Operate> = &[
         _ => operate(operator, left, right),
     }),
     ("quotients wrap", |operator, left, right| match operator {
-        Divide if right != 0 => Ok(wrapped(left / right)),
+        Divide if right != 0 => Ok(wrapped(quotient(left, right))),
         _ => operate(operator, left, right),
     }),
     (
@@ -66,21 +74,86 @@ const RANGES: Faults<Operate> = &[
     ),
 ];
 
-const DIVISIONS: Faults<Operate> = &[
+/// Whether the exact quotient is no whole number.
+fn is_inexact(left: i64, right: i64) -> bool {
+    left % right != 0
+}
+
+const QUOTIENTS: Faults<Operate> = &[
     (
-        "quotients drop downward",
+        "quotients drop their fraction toward zero",
         |operator, left, right| match operator {
-            Divide if right != 0 && left % right != 0 => {
-                Ok(left / right - i64::from((left < 0) != (right < 0)))
-            }
+            Divide if right != 0 => in_range(left / right),
             _ => operate(operator, left, right),
         },
     ),
     (
-        "the remainder takes the divisor's sign",
+        "quotients by more than 0 drop their fraction toward zero",
+        |operator, left, right| match operator {
+            Divide if right > 0 => in_range(left / right),
+            _ => operate(operator, left, right),
+        },
+    ),
+    (
+        "quotients by less than 0 drop their fraction toward zero",
+        |operator, left, right| match operator {
+            Divide if right < 0 => in_range(left / right),
+            _ => operate(operator, left, right),
+        },
+    ),
+    (
+        "quotients round up",
         |operator, left, right| match operate(operator, left, right) {
-            Ok(rest) if operator == Remainder && rest * right < 0 => Ok(rest + right),
+            Ok(down) if operator == Divide && is_inexact(left, right) => Ok(down + 1),
             result => result,
+        },
+    ),
+    (
+        "quotients leave no negative remainder",
+        |operator, left, right| match operator {
+            Divide if right != 0 => in_range(left.div_euclid(right)),
+            _ => operate(operator, left, right),
+        },
+    ),
+    (
+        "an exact quotient below zero is one less",
+        |operator, left, right| match operate(operator, left, right) {
+            Ok(exact) if operator == Divide && exact < 0 && !is_inexact(left, right) => {
+                in_range(exact - 1)
+            }
+            result => result,
+        },
+    ),
+    (
+        "quotients wrap before they round down",
+        |operator, left, right| match operator {
+            Divide if left < 0 && right > 0 => Ok(wrapped(left - right + 1) / right),
+            Divide if left > 0 && right < 0 => Ok(wrapped(left - right - 1) / right),
+            _ => operate(operator, left, right),
+        },
+    ),
+];
+
+const REMAINDERS: Faults<Operate> = &[
+    (
+        "the remainder takes the dividend's sign",
+        |operator, left, right| match operator {
+            Remainder if right != 0 => Ok(left % right),
+            _ => operate(operator, left, right),
+        },
+    ),
+    (
+        "the remainder by more than 0 takes the dividend's sign",
+        |operator, left, right| match operator {
+            Remainder if right > 0 => Ok(left % right),
+            _ => operate(operator, left, right),
+        },
+    ),
+    (
+        "the remainder by less than 0 takes the dividend's sign",
+        |operator, left, right| match operator {
+            Remainder if right < 0 => Ok(left % right),
+            _ => operate(operator, left, right),
         },
     ),
     (
@@ -90,6 +163,33 @@ const DIVISIONS: Faults<Operate> = &[
             _ => operate(operator, left, right),
         },
     ),
+    (
+        "the remainder only changes its sign",
+        |operator, left, right| match operator {
+            Remainder if right != 0 => Ok((left % right).abs() * right.signum()),
+            _ => operate(operator, left, right),
+        },
+    ),
+    (
+        "nothing left of unlike signs is the divisor",
+        |operator, left, right| match operate(operator, left, right) {
+            Ok(0) if operator == Remainder && left * right < 0 => Ok(right),
+            result => result,
+        },
+    ),
+    (
+        "a remainder stops where quotient times divisor is out of range",
+        |operator, left, right| match operator {
+            Remainder if right != 0 => {
+                in_range(quotient(left, right) * right).map(|product| left - product)
+            }
+            _ => operate(operator, left, right),
+        },
+    ),
+];
+
+/// What stops, and with which number.
+const DIVISIONS: Faults<Operate> = &[
     (
         "the least's remainder by -1 stops",
         |operator, left, right| match (operator, left, right) {

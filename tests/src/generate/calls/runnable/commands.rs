@@ -32,10 +32,11 @@ impl Maker<'_> {
 
     fn assignment(&mut self) -> Draft {
         let field = self.any_field();
-        let expression = match self.random.below(8) {
+        let expression = match self.random.below(10) {
             0..3 => self.leaf(),
             3 => self.stepped(field),
             4 => self.at_an_end(),
+            5 | 6 => self.division_at_an_end(),
             _ => self.expression(3),
         };
         assignment(field, expression)

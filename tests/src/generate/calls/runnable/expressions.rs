@@ -5,6 +5,18 @@ use crate::generate::calls::draft::*;
 use crate::generate::valid::MOST_CONSTANTS;
 use crate::model::values::{Operator, OPERATORS};
 
+/// Dividends and divisors of exact quotients. The greatest is a prime, and only the
+/// least is a multiple of the least.
+const EXACT_AT_AN_END: [(i32, i32); 7] = [
+    (i32::MIN, i32::MIN),
+    (i32::MIN, 2),
+    (i32::MIN, -2),
+    (i32::MAX, i32::MAX),
+    (i32::MAX, -1),
+    (i32::MAX, -i32::MAX),
+    (-i32::MAX, i32::MAX),
+];
+
 impl Maker<'_> {
     pub(super) fn test(&mut self) -> Draft {
         match self.random.below(16) {
@@ -84,6 +96,21 @@ impl Maker<'_> {
             true => operator(any, other, end),
             false => operator(any, end, other),
         }
+    }
+
+    /// A quotient or remainder with an end of the range on one side or on both.
+    pub(super) fn division_at_an_end(&mut self) -> Draft {
+        let any = self.random.pick(&[Operator::Divide, Operator::Remainder]);
+        let ends = [(i32::MIN, i32::MAX), (i32::MAX, i32::MIN)];
+        let (end, other_end) = self.random.pick(&ends);
+        let other = self.random.pick(&[3, -3, 7, -10, 1_000, -46_341]);
+        let (dividend, divisor) = match self.random.below(8) {
+            0..3 => self.random.pick(&EXACT_AT_AN_END),
+            3 => (end, other_end),
+            4 | 5 => (end, other),
+            _ => (other, end),
+        };
+        operator(any, self.constant(dividend), self.constant(divisor))
     }
 
     pub(super) fn arithmetic(&mut self, with: Operator, left: usize, right: i32) -> Draft {

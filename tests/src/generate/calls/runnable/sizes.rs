@@ -46,7 +46,8 @@ impl Maker<'_> {
     /// A loop that counts to its end, over a body that seldom stops the run.
     fn counting(&mut self) -> Draft {
         let counter = self.any_field();
-        let end = self.random.between(2, 200) as i32;
+        let most = self.random.pick(&[200, 600]);
+        let end = self.random.between(2, most) as i32;
         let test = operator(Operator::Less, field(counter), self.constant(end));
         let up = self.arithmetic(Operator::Plus, counter, 1);
         let body = sequence(self.simple_leaf(), assignment(counter, up));
