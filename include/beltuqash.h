@@ -23,8 +23,9 @@ uint64_t beltuqash_load(const uint8_t *sheet, size_t sheet_len);
 
 /* Runs a sheet from a store and writes the final store to out: 2 bytes, and 5 per field, so at most 322. The sheet is judged first, as load does.
  * mode is BELTUQASH_STRICT or BELTUQASH_PERMISSIVE, fuel at most 1,000,000; any other number is refused with 10. To run on from a final store,
- * lend it as the store and other memory as out. Numbers 0 to 4, 6 to 16 and 19 to 22; the place is a node's number for 12 to 16 and for
- * 19 to 22; the units are those spent, 0 for a call that is refused before it runs (1 to 11 and 19 to 22). */
+ * lend it as the store and other memory as out. Unlike C's, a sheet's / rounds down and its % takes the divisor's sign: -7 / 2 is -4, -7 % 2 is 1.
+ * Numbers 0 to 4, 6 to 16 and 19 to 22; the place is a node's number for 12 to 16 and for 19 to 22; the units are those spent, 0 for a call that
+ * is refused before it runs (1 to 11 and 19 to 22). */
 uint64_t beltuqash_run(const uint8_t *sheet, size_t sheet_len, const uint8_t *store, size_t store_len, uint32_t mode, uint32_t fuel,
                        uint8_t *out, size_t out_len);
 
