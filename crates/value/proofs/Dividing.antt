@@ -16,8 +16,8 @@ use Rattle.value.specs.declared.Computed.the-variants.{Is, OutOfRange}
 use Rattle.value.proofs.Sizes.{size-negated}
 
 -- ---- the order turned round
-from-below : (a b : ℕ) → nonNeg (subℕ a b) ≡ leb b a
-from-below a b = go (ltb a b) refl
+difference-sign : (a b : ℕ) → nonNeg (subℕ a b) ≡ leb b a
+difference-sign a b = go (ltb a b) refl
   where
     go : (t : Bool) → ltb a b ≡ t → nonNeg (cond t (negsuc (b - suc a)) (pos (a - b))) ≡ leb b a
     go true e = sym (lt-leb b a (ltb-true a b e))
@@ -25,11 +25,11 @@ from-below a b = go (ltb a b) refl
 
 by-difference : (a b : ℤ) → leZ a b ≡ nonNeg (negℤ a +ℤ b)
 by-difference (pos zero) (pos b) = le-leb zero b (omega arith)
-by-difference (pos (suc a)) (pos b) = sym (from-below b (suc a))
-by-difference (pos zero) (negsuc b) = sym (from-below zero (suc b) ∙ leb·suc-zero b)
+by-difference (pos (suc a)) (pos b) = sym (difference-sign b (suc a))
+by-difference (pos zero) (negsuc b) = sym (difference-sign zero (suc b) ∙ leb·suc-zero b)
 by-difference (pos (suc a)) (negsuc b) = refl
 by-difference (negsuc a) (pos b) = refl
-by-difference (negsuc a) (negsuc b) = sym (from-below (suc a) (suc b) ∙ leb·suc-suc b a)
+by-difference (negsuc a) (negsuc b) = sym (difference-sign (suc a) (suc b) ∙ leb·suc-suc b a)
 
 turned : (a b : ℤ) → leZ a (negℤ b) ≡ leZ b (negℤ a)
 turned a b = by-difference a (negℤ b) ∙ ap nonNeg (+ℤ-comm (negℤ a) (negℤ b)) ∙ sym (by-difference b (negℤ a))
