@@ -29,8 +29,9 @@ uint64_t beltuqash_load(const uint8_t *sheet, size_t sheet_len);
 uint64_t beltuqash_run(const uint8_t *sheet, size_t sheet_len, const uint8_t *store, size_t store_len, uint32_t mode, uint32_t fuel,
                        uint8_t *out, size_t out_len);
 
-/* Hands a reader what a request asks of a store and writes the answer: 2 bytes, and 5 per asked field (1 and the value, or 0 and value 0 if
- * the reader may not see it), so at most 322. reader is a level of the sheet. A partial field asked refuses the whole request.
+/* Hands a reader what a request asks of a store and writes the answer: 2 bytes, and 5 per asked field (1 and the value, or 0 and value 0 if it is
+ * withheld), so at most 322. reader is a level of the sheet. A field at a level that is not at or below the reader is withheld, whole or partial; a
+ * partial field at or below the reader refuses the whole request.
  * Numbers 0 to 4, 6 to 9, 11, 17, 18 and 19 to 22; the place is a position in the request, from 0, for 18, and a node's number for 19 to 22;
  * the units are 0. */
 uint64_t beltuqash_hand_out(const uint8_t *sheet, size_t sheet_len, const uint8_t *store, size_t store_len, uint32_t reader,
@@ -59,7 +60,7 @@ enum beltuqash_number {
     BELTUQASH_NOT_BELOW = 15,         /* strict: context not at or below the field's level; place: the assignment */
     BELTUQASH_PARTIAL_TEST = 16,      /* permissive: partial test; place: the if or while */
     BELTUQASH_READER_OR_REQUEST = 17, /* reader unknown, or the request's size, count or a field number wrong */
-    BELTUQASH_PARTIAL_ASKED = 18,     /* partial field asked; place: the first such position in the request, from 0 */
+    BELTUQASH_PARTIAL_ASKED = 18,     /* partial field at or below the reader asked; place: the first such position in the request, from 0 */
     BELTUQASH_NODE_UNKNOWN = 19,      /* unknown kind or operator; place: the node */
     BELTUQASH_NODE_UNUSED = 20,       /* unused place, or operator byte in a kind without one, not 0; place: the node */
     BELTUQASH_NODE_RANGE = 21,        /* child or index number out of range or not lower; place: the node */
@@ -92,7 +93,7 @@ static inline const char *beltuqash_reason(unsigned number)
     case BELTUQASH_NOT_BELOW: return "a field would be written under a test whose level is not at or below the field's (strict)";
     case BELTUQASH_PARTIAL_TEST: return "an if or while would test a partial value, and which way it goes could tell a closed one (permissive)";
     case BELTUQASH_READER_OR_REQUEST: return "the reader is not a level of the sheet, or the request's size, count or a field number is wrong";
-    case BELTUQASH_PARTIAL_ASKED: return "a partial field is asked for, and a price or a blank there could tell a closed value";
+    case BELTUQASH_PARTIAL_ASKED: return "a partial field at or below the reader is asked for, and a price or a blank there could tell a closed value";
     case BELTUQASH_NODE_UNKNOWN: return "a node has a kind or an operator that does not exist";
     case BELTUQASH_NODE_UNUSED: return "a node has something other than 0 in a place, or as its operator, that its kind does not use";
     case BELTUQASH_NODE_RANGE: return "a node names a field or a constant that the sheet does not have, or a child that does not stand before it";

@@ -14,7 +14,7 @@
 #include <sys/mman.h>
 #include <unistd.h>
 
-enum { ROOM = 16384, GUARD = 0xa5, MOST_FUEL = 1000000, MOST_FIELDS = 64, NUMBERS = 23, BASES = 16 };
+enum { ROOM = 16384, GUARD = 0xa5, MOST_FUEL = 1000000, MOST_FIELDS = 64, PARTIAL = 16, NUMBERS = 23, BASES = 16 };
 
 /* ---- random numbers, always the same ---- */
 
@@ -177,6 +177,25 @@ static unsigned run(const struct bytes *sheet, const struct bytes *store, uint32
     return number;
 }
 
+/* The store's entry of the field at a position in the request. */
+static const uint8_t *entry_asked(const struct bytes *store, const struct bytes *request, size_t position)
+{
+    const uint8_t *number = request->at + 2 + 2 * position;
+    size_t at = 2 + 5 * (size_t)(number[0] | number[1] << 8);
+    demand(at + 5 <= store->length, "a field that the store does not have");
+    return store->at + at;
+}
+
+/* What holds of an entry of an answer, however the levels lie: it tells a whole field's value or nothing, and its field is not partial at the reader's
+ * own level. */
+static void check_entry(const uint8_t *entry, const uint8_t *field, uint32_t reader)
+{
+    demand(entry[0] == 1 || (entry[0] == 0 && memcmp(entry, "\0\0\0\0", 5) == 0), "an entry neither told nor withheld");
+    demand(entry[0] == 0 || field[0] < PARTIAL, "a partial field told");
+    demand(entry[0] == 0 || memcmp(entry + 1, field + 1, 4) == 0, "another value told");
+    demand(field[0] != reader + PARTIAL, "a partial field at the reader's own level in an answer");
+}
+
 static unsigned hand_out(const struct bytes *sheet, const struct bytes *store, uint32_t reader, const struct bytes *request, size_t answer_len)
 {
     calling = call_names[HAND_OUT];
@@ -188,14 +207,15 @@ static unsigned hand_out(const struct bytes *sheet, const struct bytes *store, u
     take_back(r);
     unsigned number = count(HAND_OUT, word);
     size_t asked = request->length < 2 ? 0 : (request->length - 2) / 2;
-    demand(number != BELTUQASH_PARTIAL_ASKED || place[HAND_OUT] < asked, "a place that the request does not have");
+    if (number == BELTUQASH_PARTIAL_ASKED) {
+        demand(place[HAND_OUT] < asked, "a place that the request does not have");
+        demand(entry_asked(store, request, place[HAND_OUT])[0] >= PARTIAL, "18 for a whole field");
+    }
     size_t written = number == BELTUQASH_DONE ? 2 + 5 * asked : 0;
     demand(written <= answer_len, "success with a short answer");
     take_back_output(answer, written);
-    for (size_t i = 0; i < asked && number == BELTUQASH_DONE; i++) {
-        const uint8_t *entry = answer + 2 + 5 * i;
-        demand(entry[0] == 1 || (entry[0] == 0 && memcmp(entry, "\0\0\0\0", 5) == 0), "an entry neither told nor blank");
-    }
+    for (size_t i = 0; i < asked && number == BELTUQASH_DONE; i++)
+        check_entry(answer + 2 + 5 * i, entry_asked(store, request, i), reader);
     return number;
 }
 
@@ -274,7 +294,7 @@ static void make_store(struct bytes *store, const struct base *base, int partial
         uint32_t values[] = {edges[below(5)], below(1000), below(0xffffffff)};
         uint32_t value = values[below(3)];
         uint8_t *entry = store->at + 2 + 5 * i;
-        entry[0] = (uint8_t)(below(base->levels) + (partial && below(4) == 0 ? 16 : 0));
+        entry[0] = (uint8_t)(below(base->levels) + (partial && below(4) == 0 ? PARTIAL : 0));
         for (int j = 0; j < 4; j++)
             entry[1 + j] = (uint8_t)(value >> 8 * j);
     }

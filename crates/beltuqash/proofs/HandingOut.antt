@@ -13,7 +13,7 @@ use Rattle.sheet.specs.Load.{fieldCount}
 use Rattle.rules.specs.Marks.{permissive}
 use Rattle.rules.specs.Stores.{storeOf}
 use Rattle.handout.specs.Requests.{askedCount, requestRight}
-use Rattle.handout.specs.Answers.{firstPartial, answerLength, answerBytes}
+use Rattle.handout.specs.Answers.{answerLength, answerBytes, firstRefusing}
 use Rattle.beltuqash.specs.Answer.{answer}
 use Rattle.beltuqash.specs.Calls.{Outcome, refuse, handed, handOut}
 use Rattle.beltuqash.specs.Checks.{Taken, Judged}
@@ -41,11 +41,14 @@ module _ (sheet store : List ℕ) (reader : ℕ) (request out : List ℕ) where
       unfolding handOut
       goes-on e = taken-next taken out _ ∙ rw (a, e)
 
-  pub told-18 : firstPartial (storeOf store) request < askedCount request → handed sheet store reader request out ≡ refuse 18 (firstPartial (storeOf store) request) out
+  abbrev first : ℕ
+  first = firstRefusing (lattice (levelsOf sheet)) reader (storeOf store) request
+
+  pub told-18 : first < askedCount request → handed sheet store reader request out ≡ refuse 18 first out
   unfolding handed
   told-18 h = rw (lt-ltb _ _ h)
 
-  pub answered : askedCount request ≤ firstPartial (storeOf store) request
+  pub answered : askedCount request ≤ first
       → handed sheet store reader request out ≡ record {
         answer = answer 0 0 0;
         out = answerBytes (lattice (levelsOf sheet)) reader (storeOf store) request ++ drop (answerLength request) out;

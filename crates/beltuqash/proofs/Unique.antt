@@ -25,7 +25,7 @@ use Rattle.rules.specs.Marks.{Mark, Mode, permissive, modeOf, marking}
 use Rattle.rules.specs.Stores.{storeLength, storeOf, storeFits, marksRight}
 use Rattle.rules.proofs.Stops.{EndUpTo, upto-done, upto-spent, upto-stopped, cmd-upto, exec-upto}
 use Rattle.handout.specs.Requests.{askedCount, requestRight}
-use Rattle.handout.specs.Answers.{firstPartial, answerLength}
+use Rattle.handout.specs.Answers.{answerLength, firstRefusing}
 use Rattle.handout.proofs.Requesting.{right-has}
 use Rattle.beltuqash.specs.Answer.{Answer, wordOf}
 use Rattle.beltuqash.specs.Calls.{Outcome, check, checkStore, load, ended, runFrom, run, handed, handOut}
@@ -157,7 +157,7 @@ module _ (sheet store : List ℕ) (reader : ℕ) (request out : List ℕ) where
   unfolding handed
   handed-range right =
       let few = right-has _ _ right .few in
-      let first = firstPartial (storeOf store) request in
+      let first = firstRefusing (lattice (levelsOf sheet)) reader (storeOf store) request in
       split (ltb first (askedCount request))
       (λ t. let inside = ltb-true first (askedCount request) t in rw t (record { number = (omega arith, λ e. omega arith); place = omega arith; units = omega arith }))
       (λ f. rw f (record { number = (omega arith, λ e. omega arith); place = omega arith; units = omega arith }))

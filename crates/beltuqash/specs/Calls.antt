@@ -14,7 +14,7 @@ use Rattle.rules.specs.Rules.{End, done, spent, stopped, exec, running}
 use Rattle.rules.specs.Marks.{Mark, Mode, permissive, modeOf, joined, entered, stored, marking}
 use Rattle.rules.specs.Stores.{markOf, storeLength, cellAt, storeOf, entryOf, entriesOf, storeBytes, storeFits, markKnown, marksRight}
 use Rattle.handout.specs.Requests.{askedCount, requestRight}
-use Rattle.handout.specs.Answers.{firstPartial, answerLength, answerBytes, answering}
+use Rattle.handout.specs.Answers.{answerLength, answerBytes, firstRefusing, answering}
 use Rattle.beltuqash.specs.Answer.{Answer, answer}
 
 -- **Load** judges a sheet: numbers 0 to 4, 6, 7, and 19 to 22 with the number of the node as their place. Units are 0 for load.
@@ -62,12 +62,12 @@ run sheet store mode fuel out =
     (check (leb (storeLength (fieldCount sheet)) (length out)) 11 0 out  -- output shorter than the store
     (runFrom sheet store mode fuel out)))
 
--- a right request, handed out from a store that fits. Any partial field asked refuses all of it: 18, first such position in the request.
+-- a right request, handed out from a store that fits. A partial field at or below the reader refuses all of it: 18, first such position in the request.
 -- Success writes exactly the answer; later bytes stay.
 unfoldable pub handed : List ℕ → List ℕ → ℕ → List ℕ → List ℕ → Outcome
 handed sheet store reader request out =
-    cond (ltb (firstPartial (storeOf store) request) (askedCount request))
-    (refuse 18 (firstPartial (storeOf store) request) out)
+    cond (ltb (firstRefusing (lattice (levelsOf sheet)) reader (storeOf store) request) (askedCount request))
+    (refuse 18 (firstRefusing (lattice (levelsOf sheet)) reader (storeOf store) request) out)
     (record {
       answer = answer 0 0 0;
       out = answerBytes (lattice (levelsOf sheet)) reader (storeOf store) request ++ drop (answerLength request) out;

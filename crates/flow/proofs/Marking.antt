@@ -45,7 +45,7 @@ unfolding markOf
 mark-partial byte h = rw (le-ltb byte 16 h)
 
 -- the level of a known mark
-level-is : (levels byte : ℕ) → markKnown levels byte ≡ true → levelOf (markOf byte) ≡ byte % 16
+pub level-is : (levels byte : ℕ) → markKnown levels byte ≡ true → levelOf (markOf byte) ≡ byte % 16
 level-is levels byte h =
     let few = known-is levels byte h .0 in
     split (ltb byte 16)

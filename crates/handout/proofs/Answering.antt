@@ -1,68 +1,61 @@
--- What an answer shows: which fields are partial, an entry of five bytes for each that is not, and the entries so far.
+-- What an answer shows: which fields refuse, an entry of five bytes for each that does not, and the entries so far.
 use Prim.Native.Nat.{ℕ, zero, suc, _+_, _*_, _≤_, _<_}
 use native.Mathlib.Omega.{arith}
 use native.Mathlib.Numerals.{add-one}
 use mathlib.Core.Path.{_≡_, refl, sym, ap, _∙_}
 use mathlib.Core.Bool.{true, false, true≢false}
 use mathlib.Core.List.{List, [], _∷_, _++_}
-use borrow.Author.Tests.{ltb-true, ltb-false}
-use lib.Dec.{ltb}
-use lib.IntN.{pos}
 use lib.ListN.{length, length-append}
 use Rattle.basis.proofs.Tests.{split, None}
 use Rattle.value.specs.Bytes.{bytesOf}
-use Rattle.levels.specs.Levels.{below, Two}
-use Rattle.levels.specs.Lattice.{Lattice, lattice}
-use Rattle.levels.proofs.Laws.{le-at}
-use Rattle.levels.proofs.Facts.{facts}
+use Rattle.value.specs.declared.Value.{Value}
+use Rattle.levels.specs.Lattice.{Lattice}
 use Rattle.rules.specs.Rules.{Cell, cell, Store}
-use Rattle.rules.specs.Marks.{Mark, whole, partial}
-use Rattle.rules.specs.Stores.{markAt, cellAt}
-use Rattle.flow.specs.Words.{valueIn, markIn, cellIn}
-use Rattle.flow.proofs.Marking.{mark-whole, mark-partial}
-use Rattle.handout.specs.Requests.{fieldAsked}
-use Rattle.handout.specs.Answers.{isPartial, asksPartial, shown, allShown}
+use Rattle.rules.specs.Marks.{Mark, whole, partial, permissive, levelOf}
+use Rattle.rules.specs.Stores.{markOf, storeOf}
+use Rattle.flow.specs.Words.{cellIn}
+use Rattle.flow.proofs.Marking.{marks-known, mark-whole, mark-partial}
+use Rattle.flow.proofs.Entries.{same-mark}
+use Rattle.handout.specs.Requests.{askedCount, fieldAsked}
+use Rattle.handout.specs.Answers.{shown, allShown, refuses, refusesAt}
+use Rattle.handout.specs.Asks.{Faces, AsksAs}
+use Rattle.handout.proofs.Requesting.{right-has}
+use Rattle.handout.proofs.Alike.{shown-elsewhere}
 
--- ── partial fields ──────────────────────────────────────────────────────────────────────────
-
-module _ (store : List ℕ) (field : ℕ) where
-  pub high-partial : 16 ≤ markAt store field → isPartial (cellAt store field) ≡ true
-  unfolding isPartial cellAt
-  high-partial h = rw (mark-partial _ h)
-
-  pub low-whole : markAt store field < 16 → isPartial (cellAt store field) ≡ false
-  unfolding isPartial cellAt
-  low-whole h = rw (mark-whole _ h)
-
-  pub whole-low : isPartial (cellAt store field) ≡ false → markAt store field < 16
-  whole-low e =
-      split (ltb (markAt store field) 16) (λ low. ltb-true _ 16 low)
-      (λ high. absurd (true≢false (sym (high-partial (ltb-false _ 16 high)) ∙ e)))
-
--- ── an entry ────────────────────────────────────────────────────────────────────────────────
-
-module _ (rows : List ℕ) (reader word : ℕ) (two : Two rows (markIn word) reader) where
-  whole-word : cellIn word ≡ cell (valueIn word) (whole (markIn word))
-  whole-word = ap (cell (valueIn word)) (mark-whole (markIn word) (omega (arith, two .first, facts rows (two .rows) .few)))
-
-  order-at : lattice rows .le (markIn word) reader ≡ below rows (markIn word) reader
-  order-at = le-at rows (markIn word) reader (two .first) (two .second)
-
-  pub shown-below : below rows (markIn word) reader ≡ true → shown (lattice rows) reader (cellIn word) ≡ 1 ∷ bytesOf (valueIn word .n)
-  unfolding shown
-  shown-below e = rw (whole-word, order-at, e)
-
-  pub shown-elsewhere : below rows (markIn word) reader ≡ false → shown (lattice rows) reader (cellIn word) ≡ 0 ∷ bytesOf (pos 0)
-  unfolding shown
-  shown-elsewhere e = rw (whole-word, order-at, e)
-
--- ── the entries so far ──────────────────────────────────────────────────────────────────────
+-- the word of a field asked for has a mark that is known
+pub faces : {rows store : List ℕ} {reader : ℕ} {request : List ℕ} → AsksAs rows store reader request → (i word : ℕ) → i < askedCount request
+    → cellIn word ≡ storeOf store (fieldAsked request i) → Faces rows reader word
+faces given i word inside is =
+    let field-known = right-has _ _ (given .asks .right) .known i inside in
+    record {
+      order = given .order;
+      reader-known = given .reader-known;
+      mark = rw (same-mark _ _ word is) (marks-known permissive _ _ _ (given .marks) _ field-known);
+    }
 
 module _ (𝓛 : Lattice) (reader : ℕ) where
-  shown-length : (c : Cell Mark) → isPartial c ≡ false → length (shown 𝓛 reader c) ≡ 5
-  unfolding shown isPartial bytesOf
-  shown-length (cell v (whole a)) e = split (𝓛 .le a reader) (λ t. rw t) (λ f. rw f)
-  shown-length (cell v (partial a)) e = absurd (true≢false e)
+  -- ── a field ───────────────────────────────────────────────────────────────────────────────
+
+  module _ (v : Value) where
+    pub low-passes : (byte : ℕ) → byte < 16 → refuses 𝓛 reader (cell v (markOf byte)) ≡ false
+    unfolding refuses
+    low-passes byte h = rw (mark-whole byte h)
+
+    pub high-refuses : (byte : ℕ) → 16 ≤ byte → refuses 𝓛 reader (cell v (markOf byte)) ≡ 𝓛 .le (levelOf (markOf byte)) reader
+    unfolding refuses
+    high-refuses byte h = rw (mark-partial byte h)
+
+    pub shown-below : (m : Mark) → refuses 𝓛 reader (cell v m) ≡ false → 𝓛 .le (levelOf m) reader ≡ true → shown 𝓛 reader (cell v m) ≡ 1 ∷ bytesOf (v .n)
+    unfolding refuses shown
+    shown-below (whole a) passes below = rw below
+    shown-below (partial a) passes below = absurd (true≢false (sym below ∙ passes))
+
+  shown-length : (c : Cell Mark) → refuses 𝓛 reader c ≡ false → length (shown 𝓛 reader c) ≡ 5
+  unfolding bytesOf
+  shown-length (cell v m) passes =
+      split (𝓛 .le (levelOf m) reader) (λ t. ap length (shown-below v m passes t)) (λ f. ap length (shown-elsewhere 𝓛 reader v m f))
+
+  -- ── the entries so far ────────────────────────────────────────────────────────────────────
 
   module _ (σ : Store Mark) (request : List ℕ) where
     pub none-shown : allShown 𝓛 reader σ request 0 ≡ []
@@ -73,10 +66,10 @@ module _ (𝓛 : Lattice) (reader : ℕ) where
     unfolding allShown
     one-shown-more i = ap (allShown 𝓛 reader σ request) (sym (add-one i))
 
-    pub entry-length : (n : ℕ) → None n (asksPartial σ request) → (i : ℕ) → i < n → length (shown 𝓛 reader (σ (fieldAsked request i))) ≡ 5
+    pub entry-length : (n : ℕ) → None n (refusesAt 𝓛 reader σ request) → (i : ℕ) → i < n → length (shown 𝓛 reader (σ (fieldAsked request i))) ≡ 5
     entry-length n none i h = shown-length _ (none i h)
 
-  pub entries-length : (σ : Store Mark) (request : List ℕ) (i : ℕ) → None i (asksPartial σ request) → length (allShown 𝓛 reader σ request i) ≡ i * 5
+  pub entries-length : (σ : Store Mark) (request : List ℕ) (i : ℕ) → None i (refusesAt 𝓛 reader σ request) → length (allShown 𝓛 reader σ request i) ≡ i * 5
   unfolding allShown
   entries-length σ request zero none = refl
   entries-length σ request (suc i) none =

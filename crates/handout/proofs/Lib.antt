@@ -1,4 +1,4 @@
--- What a right request has, and what an answer shows.
+-- What a right request has, why answers are alike, and what an answer shows.
 pub mod Requesting
-pub mod Answering
 pub mod Alike
+pub mod Answering

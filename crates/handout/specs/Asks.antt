@@ -5,10 +5,12 @@ use mathlib.Core.Bool.{true}
 use mathlib.Core.List.{List}
 use lib.ListN.{length}
 use Rattle.levels.specs.Levels.{count, right}
+use Rattle.levels.specs.Lattice.{lattice}
 use Rattle.rules.specs.Marks.{permissive}
-use Rattle.rules.specs.Stores.{storeLength, storeOf, marksRight}
+use Rattle.rules.specs.Stores.{storeLength, storeOf, markKnown, marksRight}
+use Rattle.flow.specs.Words.{markIn}
 use Rattle.handout.specs.Requests.{askedCount, requestRight}
-use Rattle.handout.specs.Answers.{firstPartial, answerLength}
+use Rattle.handout.specs.Answers.{answerLength, firstRefusing}
 
 -- a right request, for a store of so many fields
 pub record Asks (store request : List ℕ) : Type 0 where
@@ -16,11 +18,21 @@ pub record Asks (store request : List ℕ) : Type 0 where
   pub long : length store ≡ storeLength fields
   pub right : requestRight fields request ≡ true
 
--- and all that an answer needs: right rows, a reader and marks that they know, no partial field asked, and room
-pub record Answerable (rows store : List ℕ) (reader : ℕ) (request answer : List ℕ) : Type 0 where
+-- a reader who stands at a level of right rows, and a field's word with a mark that they know
+pub record Faces (rows : List ℕ) (reader word : ℕ) : Type 0 where
+  pub order : right rows ≡ true
+  pub reader-known : reader < count rows
+  pub mark : markKnown (count rows) (markIn word) ≡ true
+
+-- a right request of such a reader's, for a store with such marks
+pub record AsksAs (rows store : List ℕ) (reader : ℕ) (request : List ℕ) : Type 0 where
   pub asks : Asks store request
   pub order : right rows ≡ true
   pub reader-known : reader < count rows
   pub marks : marksRight permissive (count rows) (asks .fields) store ≡ true
-  pub none-partial : firstPartial (storeOf store) request ≡ askedCount request
+
+-- that no field refuses, with room for the answer
+pub record Answerable (rows store : List ℕ) (reader : ℕ) (request answer : List ℕ) : Type 0 where
+  pub asks-as : AsksAs rows store reader request
+  pub none-refuses : firstRefusing (lattice rows) reader (storeOf store) request ≡ askedCount request
   pub room : answerLength request ≤ length answer

@@ -1,9 +1,19 @@
 //! What is compared of hand-out.
 
 use super::calls::Compared;
+use super::partial_asked::PartialAsked;
 use super::{hex, Times};
+use crate::model::hand_out::hand_out_watched;
+use crate::model::hand_out::rules::DOCUMENT;
 use crate::model::{hand_out, HandOut, Outcome};
 use std::fmt;
+
+/// How often each number came back, and the partial fields asked.
+#[derive(Clone, Debug, Default)]
+pub struct Histogram {
+    pub all: Times,
+    pub partial_asked: PartialAsked,
+}
 
 /// Hand-out gives 0, load's, 8, 9, 17, 11 and 18.
 pub const NUMBERS: [usize; 16] = [0, 1, 2, 3, 4, 19, 20, 21, 22, 6, 7, 8, 9, 17, 11, 18];
@@ -11,15 +21,16 @@ pub const NUMBERS: [usize; 16] = [0, 1, 2, 3, 4, 19, 20, 21, 22, 6, 7, 8, 9, 17,
 impl Compared for HandOut {
     const NAME: &'static str = "hand-out";
 
-    type Histogram = Times;
+    type Histogram = Histogram;
 
     fn outcome(&self) -> Outcome {
         hand_out(self)
     }
 
-    fn counted(&self, histogram: &mut Times) -> Outcome {
-        let outcome = self.outcome();
-        histogram[usize::from(outcome.answer.number)] += 1;
+    fn counted(&self, histogram: &mut Histogram) -> Outcome {
+        let watch = &mut |asked: &_| histogram.partial_asked.count(asked);
+        let outcome = hand_out_watched(&DOCUMENT, self, watch);
+        histogram.all[usize::from(outcome.answer.number)] += 1;
         outcome
     }
 
@@ -46,10 +57,13 @@ mod tests {
 
     #[test]
     fn the_model_agrees_with_itself_and_the_generator() {
-        let histogram = with_itself::<HandOut>(10_000);
-        let counted = NUMBERS.map(|number| histogram[number]);
+        let Histogram { all, partial_asked } = with_itself::<HandOut>(10_000);
+        let counted = NUMBERS.map(|number| all[number]);
         assert_eq!(counted.iter().sum::<u64>(), 10_000);
-        assert!(counted.iter().all(|&times| times > 40), "{histogram:?}");
+        assert!(counted.iter().all(|&times| times > 40), "{all:?}");
+        for (kind, times) in partial_asked.each() {
+            assert!(times > 60, "{kind}: {times}");
+        }
     }
 
     #[test]

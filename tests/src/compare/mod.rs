@@ -6,6 +6,7 @@ pub mod divisions;
 pub mod effect;
 pub mod hand_out;
 pub mod load;
+pub mod partial_asked;
 pub mod run;
 
 use crate::model::number;

@@ -94,12 +94,12 @@ fn fuels(sheet: &Sheet, random: &mut Random) -> [u32; 2] {
     [fuel(), fuel()]
 }
 
-/// A few fields, seldom all of them.
+/// A few fields, or all of them.
 fn fields(sheet: &Sheet, random: &mut Random) -> Vec<usize> {
     let fields = sheet.fields.len();
-    match random.once_in(8) {
+    match random.once_in(4) {
         true => (0..fields).collect(),
-        false => (0..random.between(1, 3))
+        false => (0..random.between(1, 4))
             .map(|_| random.below(fields))
             .collect(),
     }

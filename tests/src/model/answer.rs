@@ -40,7 +40,7 @@ pub mod number {
     pub const PARTIAL_TEST: u8 = 16;
     /// Row 17: hand-out: reader unknown, request's size, count or a field number wrong.
     pub const REQUEST: u8 = 17;
-    /// Row 18: hand-out: partial field asked.
+    /// Row 18: hand-out: partial field at or below the reader asked.
     pub const PARTIAL_ASKED: u8 = 18;
     /// Row 19: unknown kind or operator.
     pub const NODE_UNKNOWN: u8 = 19;

@@ -23,9 +23,31 @@ struct Finished<'a> {
 /// A kind of pair.
 type Kind = (&'static str, fn(&Finished) -> bool);
 
-const KINDS: [Kind; 11] = [
+const KINDS: [Kind; 16] = [
     ("finished both", |_| true),
     ("answered both", |finished| finished.answered),
+    ("answered both, a partial field withheld", |finished| {
+        withheld(finished, |one, other| one || other)
+    }),
+    (
+        "answered both, a field withheld partial twice",
+        |finished| withheld(finished, |one, other| one && other),
+    ),
+    (
+        "answered both, a field withheld whole once, partial once",
+        |finished| withheld(finished, |one, other| one != other),
+    ),
+    (
+        "answered both, a partial field withheld beside an open one",
+        |finished| withheld(finished, |one, other| one || other) && shown(finished),
+    ),
+    (
+        "answered both, a field withheld that a run left partial",
+        |finished| {
+            let starts = &finished.pair.stores;
+            withheld(finished, |one, other| one || other) && !starts.iter().any(has_partial)
+        },
+    ),
     ("strict", |finished| finished.pair.mode == Mode::Strict),
     ("permissive", |finished| {
         finished.pair.mode == Mode::Permissive
@@ -65,6 +87,30 @@ fn differ_in_closed_fields(finished: &Finished) -> bool {
     let [one, other] = &pair.stores;
     let mut fields = one.fields.iter().zip(&other.fields);
     fields.any(|(one, other)| closed(one) && closed(other) && one.value != other.value)
+}
+
+/// The asked fields in both final stores.
+fn asked<'a>(finished: &'a Finished) -> impl Iterator<Item = [Marked; 2]> + 'a {
+    let fields = finished.pair.fields.iter();
+    fields.map(|&field| finished.ends.each_ref().map(|end| end.fields[field]))
+}
+
+fn is_open(finished: &Finished, field: Marked) -> bool {
+    let levels = &finished.pair.sheet.levels;
+    levels.at_or_below(field.mark.level, finished.pair.reader)
+}
+
+/// Whether both answers came, and withhold a field of which this is so: that it is
+/// partial in the one store, and in the other.
+fn withheld(finished: &Finished, so: impl Fn(bool, bool) -> bool) -> bool {
+    let withheld = |field: Marked| field.mark.partial && !is_open(finished, field);
+    let mut fields = asked(finished).map(|fields| fields.map(withheld));
+    finished.answered && fields.any(|[one, other]| so(one, other))
+}
+
+/// Whether a field is shown in the answers.
+fn shown(finished: &Finished) -> bool {
+    asked(finished).any(|[one, _]| is_open(finished, one))
 }
 
 /// Whether the tests went different ways, or were different ones.

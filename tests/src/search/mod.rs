@@ -175,9 +175,9 @@ mod tests {
 
     #[test]
     fn there_is_no_breach_in_the_model() {
-        let counts = search(2, 0..20_000, &MODEL);
+        let counts = search(2, 0..60_000, &MODEL);
         let counts = counts.unwrap_or_else(|breach| panic!("{breach}"));
-        assert_eq!(counts.pairs, 20_000);
+        assert_eq!(counts.pairs, 60_000);
         for (name, times) in counts.each() {
             assert!(times > 200, "{name}: {times}");
         }

@@ -33,10 +33,16 @@ const OLD_CONTEXT: Lesson = Lesson {
     reader: 0,
 };
 
-const BLANKED: Lesson = Lesson {
-    fault: "a partial field blanked",
+const WITHHELD: Lesson = Lesson {
+    fault: "a partial field at or below the reader withheld",
     sheet: include_bytes!("../../../examples/sealed.sheet"),
     reader: 0,
+};
+
+const WITHHELD_FROM_OFFICE: Lesson = Lesson {
+    sheet: include_bytes!("../../../examples/floor.sheet"),
+    reader: 1,
+    ..WITHHELD
 };
 
 const NEVER_CLEAN: Lesson = Lesson {
@@ -45,7 +51,7 @@ const NEVER_CLEAN: Lesson = Lesson {
     reader: 0,
 };
 
-/// The field that the reader asks for: w, told, q and p.
+/// The field that the reader asks for: w, told, q, floor and p.
 const ASKED: usize = 1;
 
 /// What is made of a call by the one with this fault, or by the model if none of
@@ -106,14 +112,17 @@ fn the_page_tells_what_the_pupils_monitors_do() {
     };
     let counting = |n| [whole(1, n), whole(0, 0)];
     let sealed = |cost| [whole(0, 0), whole(0, 0), whole(1, cost)];
+    let floor = |cost| [whole(0, 0), whole(1, 0), whole(2, cost)];
     let clean = |cost| [whole(1, cost), whole(0, 0)];
     let rows = [
         A_KEPT.row("xp 1, x2 1", &listing_3(1)),
         A_KEPT.row("xp 0, x2 0", &listing_3(0)),
         OLD_CONTEXT.row("n 0", &counting(0)),
         OLD_CONTEXT.row("n 2", &counting(2)),
-        BLANKED.row("cost 400", &sealed(400)),
-        BLANKED.row("cost 600", &sealed(600)),
+        WITHHELD.row("cost 400", &sealed(400)),
+        WITHHELD.row("cost 600", &sealed(600)),
+        WITHHELD_FROM_OFFICE.row("cost 400", &floor(400)),
+        WITHHELD_FROM_OFFICE.row("cost 600", &floor(600)),
         NEVER_CLEAN.row("cost 400", &clean(400)),
         NEVER_CLEAN.row("cost 600", &clean(600)),
     ];

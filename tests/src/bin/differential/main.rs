@@ -17,7 +17,8 @@ use std::ops::Range;
 use std::process::ExitCode;
 use std::time::Instant;
 
-/// How often each number must come back, each kind of division and of pair come up.
+/// How often each number must come back, each kind of division, of partial fields
+/// asked and of pair come up.
 const LEAST_TIMES: u64 = 1_000;
 
 fn main() -> ExitCode {
@@ -82,9 +83,12 @@ fn run_passes(seed: u64, calls: u64) -> bool {
     })
 }
 
+/// Every number, and every kind of partial fields asked.
 fn hand_out_passes(seed: u64, calls: u64) -> bool {
-    let times = compare_hand_out(seed, 0..calls);
-    times.is_some_and(|times| often_enough(&hand_out::NUMBERS.map(|number| times[number])))
+    compare_hand_out(seed, 0..calls).is_some_and(|times| {
+        let asked: Vec<u64> = times.partial_asked.each().map(|(_, times)| times).collect();
+        often_enough(&hand_out::NUMBERS.map(|number| times.all[number])) && often_enough(&asked)
+    })
 }
 
 fn search_passes(seed: u64, pairs: u64) -> bool {
@@ -146,13 +150,16 @@ fn compare_run(seed: u64, indexes: Range<u64>) -> Option<run::Histogram> {
 }
 
 /// The same for the hand-outs.
-fn compare_hand_out(seed: u64, indexes: Range<u64>) -> Option<Times> {
+fn compare_hand_out(seed: u64, indexes: Range<u64>) -> Option<hand_out::Histogram> {
     let start = Instant::now();
     let histogram = unless_found(compare(seed, indexes, &archive::hand_out))?;
     for number in hand_out::NUMBERS {
-        println!("hand-out, number {number:>2}: {:>8}", histogram[number]);
+        println!("hand-out, number {number:>2}: {:>8}", histogram.all[number]);
     }
-    let calls = histogram.iter().sum();
+    for (kind, times) in histogram.partial_asked.each() {
+        println!("hand-out, {kind}: {times:>8}");
+    }
+    let calls = histogram.all.iter().sum();
     all_passed(calls, "hand-outs without a difference", start);
     Some(histogram)
 }

@@ -9,6 +9,7 @@ use beltuqash_tests::model::sheet::Sheet;
 pub fn all() -> Vec<(&'static str, Sheet)> {
     vec![
         ("clean.sheet", clean()),
+        ("floor.sheet", floor()),
         ("listing3.sheet", listing_3()),
         ("rounds.sheet", told_in_rounds()),
     ]
@@ -56,4 +57,14 @@ fn clean() -> Sheet {
     let cheap = operator(LESS, field(cost), constant(500));
     let first = branch(cheap, assign(p, constant(1)), skip());
     sheet(&[3, 2], &["cost", "p"], then(first, assign(p, constant(7))))
+}
+
+/// q := 7; if cost < 500 then floor := 1 else skip. Levels 0 dealer, 1 office,
+/// 2 house.
+fn floor() -> Sheet {
+    let (q, floor, cost) = (0, 1, 2);
+    let cheap = operator(LESS, field(cost), constant(500));
+    let lower = branch(cheap, assign(floor, constant(1)), skip());
+    let command = then(assign(q, constant(7)), lower);
+    sheet(&[7, 6, 4], &["q", "floor", "cost"], command)
 }

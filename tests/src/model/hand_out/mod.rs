@@ -44,8 +44,16 @@ pub fn hand_out(call: &HandOut) -> Outcome {
 
 /// Hand-out by these rules.
 pub fn hand_out_by(rules: &Rules, call: &HandOut) -> Outcome {
+    hand_out_watched(rules, call, &mut |_| {})
+}
+
+/// Hand-out by these rules, watched: what has passed the checks up to row 11 is seen.
+pub fn hand_out_watched(rules: &Rules, call: &HandOut, watch: &mut dyn FnMut(&Asked)) -> Outcome {
     match Asked::checked(rules, call) {
-        Ok(asked) => asked.outcome(rules),
+        Ok(asked) => {
+            watch(&asked);
+            asked.outcome(rules)
+        }
         Err(refusal) => Outcome::refused(refusal),
     }
 }
@@ -84,6 +92,12 @@ impl Asked {
     /// The asked fields' values and marks, in the order of the request.
     pub fn marked(&self) -> impl Iterator<Item = Marked> + '_ {
         self.fields.iter().map(|&field| self.store.fields[field])
+    }
+
+    /// Whether the field's level lies at or below the reader.
+    pub fn at_or_below_reader(&self, field: Marked) -> bool {
+        let levels = &self.sheet.levels;
+        levels.at_or_below(field.mark.level, self.reader)
     }
 
     /// Row 18, or the answer: the count, then per asked field 5 bytes. Units are

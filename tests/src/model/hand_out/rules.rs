@@ -72,14 +72,16 @@ fn output_is_long_enough(count: usize, output: usize) -> bool {
     output >= length(count)
 }
 
-/// Any partial field asked refuses all of it; told is the first such position in
-/// the request, from 0.
+/// Only a partial field at or below the reader still refuses, and all of it; told is
+/// the first such position in the request, from 0.
 fn refused_position(asked: &Asked) -> Option<usize> {
-    asked.marked().position(|field| field.mark.partial)
+    let mut fields = asked.marked();
+    fields.position(|field| field.mark.partial && asked.at_or_below_reader(field))
 }
 
 /// 1 and the value if whole at or below the reader; 0 and value 0 if whole
-/// elsewhere.
+/// elsewhere. A partial field whose level isn't at or below the reader is handed out
+/// as withheld, like a whole closed one.
 fn entry(levels: &Levels, reader: usize, field: Marked) -> (u8, i64) {
     match levels.at_or_below(field.mark.level, reader) {
         true => (1, field.value),

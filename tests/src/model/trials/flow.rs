@@ -69,23 +69,52 @@ fn the_flag_sheet_with_a_seal() {
     refused(&at_cost(&sheet, 600, STRICT, 9), CONTEXT, 16, 6);
 }
 
-/// A request for q by level 0, after the flag sheet with a seal at this cost.
-fn asked_for_q(cost: i32) -> Outcome {
-    let sheet = sealed_flag_sheet();
+/// What a reader gets who asks for these fields after a run.
+fn asked_for(call: &Call, reader: u32, fields: &[u16]) -> Outcome {
+    let fields: Vec<usize> = fields.iter().map(|&field| field.into()).collect();
     hand_out(&HandOut {
-        sheet: sheet.bytes(),
-        store: run(&at_cost(&sheet, cost, PERMISSIVE, 9)).written,
-        reader: 0,
-        request: request(&[Q.into()]),
-        output: vec![0; 7],
+        sheet: call.sheet.clone(),
+        store: run(call).written,
+        reader,
+        request: request(&fields),
+        output: vec![0; 2 + 5 * fields.len()],
     })
 }
 
 #[test]
 fn a_request_for_q_after_the_flag_sheet_with_a_seal() {
+    let sheet = sealed_flag_sheet();
+    let asked_for_q = |cost| asked_for(&at_cost(&sheet, cost, PERMISSIVE, 9), 0, &[Q]);
     assert_eq!(asked_for_q(400).answer, Answer::plain(DONE));
     assert_eq!(asked_for_q(400).written, [1, 0, 1, 0, 0, 0, 0]);
     assert_eq!(asked_for_q(600).answer, Answer::plain(PARTIAL_ASKED));
+}
+
+/// A chain of three levels and fields f0 to f2 at them: f0 := 7; if f2 < 500 then
+/// f1 := 1 else skip. At 400 f1 ends partial at level 1.
+#[test]
+fn a_field_left_partial_is_withheld_from_readers_below_it() {
+    let cheap = operator(LESS, field(2), constant(500));
+    let lower = branch(cheap, assign(1, constant(1)), skip());
+    let sheet = Parts::of(&[7, 6, 4], 3, then(assign(0, constant(7)), lower));
+    let at = |cost| {
+        let fields = [whole(0, 0), whole(1, 0), whole(2, cost)];
+        call(&sheet, &fields, PERMISSIVE, 9)
+    };
+    done(&at(400), 3, &[whole(0, 7), partial(1, 1), whole(2, 400)]);
+    done(&at(600), 3, &[whole(0, 7), whole(1, 0), whole(2, 600)]);
+    let alike = asked_for(&at(400), 0, &[0, 1, 2]);
+    assert_eq!(alike.written, store(&[(1, 7), (0, 0), (0, 0)]));
+    assert_eq!(alike, asked_for(&at(600), 0, &[0, 1, 2]));
+    let refused = Answer {
+        place: 1,
+        ..Answer::plain(PARTIAL_ASKED)
+    };
+    for (reader, cost) in [(1, (0, 0)), (2, (1, 600))] {
+        assert_eq!(asked_for(&at(400), reader, &[0, 1, 2]).answer, refused);
+        let told = asked_for(&at(600), reader, &[0, 1, 2]).written;
+        assert_eq!(told, store(&[(1, 7), (1, 0), cost]));
+    }
 }
 
 #[test]

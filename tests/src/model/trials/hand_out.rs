@@ -5,7 +5,8 @@ use super::trees::*;
 use super::*;
 use crate::model::hand_out::request;
 
-/// The diamond and five fields: whole at each level, and partial BOT.
+/// The diamond and eight fields: fields 0 to 3 whole at each level, fields 4 to 7
+/// partial at each.
 fn quiet(reader: u32, fields: &[usize]) -> HandOut {
     let marked = [
         whole(0, 10),
@@ -13,9 +14,12 @@ fn quiet(reader: u32, fields: &[usize]) -> HandOut {
         whole(2, 12),
         whole(3, 13),
         partial(0, 14),
+        partial(1, -15),
+        partial(2, 16),
+        partial(3, 17),
     ];
     HandOut {
-        sheet: Parts::of(&[15, 10, 12, 8], 5, skip()).bytes(),
+        sheet: Parts::of(&[15, 10, 12, 8], 8, skip()).bytes(),
         store: store(&marked),
         reader,
         request: request(fields),
@@ -44,16 +48,16 @@ fn gives(number: u8, place: u16, call: &HandOut) {
     }
 }
 
-const BLANK: (u8, i32) = (0, 0);
+const WITHHELD: (u8, i32) = (0, 0);
 
 #[test]
 fn a_reader_sees_what_is_whole_at_or_below_it() {
     let all = [0, 1, 2, 3];
     let bottom = (1, 10);
     let (left, right) = ((1, -11), (1, 12));
-    answers(&quiet(0, &all), &[bottom, BLANK, BLANK, BLANK]);
-    answers(&quiet(1, &all), &[bottom, left, BLANK, BLANK]);
-    answers(&quiet(2, &all), &[bottom, BLANK, right, BLANK]);
+    answers(&quiet(0, &all), &[bottom, WITHHELD, WITHHELD, WITHHELD]);
+    answers(&quiet(1, &all), &[bottom, left, WITHHELD, WITHHELD]);
+    answers(&quiet(2, &all), &[bottom, WITHHELD, right, WITHHELD]);
     answers(&quiet(3, &all), &[bottom, left, right, (1, 13)]);
 }
 
@@ -62,20 +66,76 @@ fn repeats_and_empty_requests_are_answered() {
     answers(&quiet(0, &[]), &[]);
     answers(
         &quiet(1, &[1, 0, 1, 3]),
-        &[(1, -11), (1, 10), (1, -11), BLANK],
+        &[(1, -11), (1, 10), (1, -11), WITHHELD],
     );
     answers(&quiet(0, &[0; 64]), &[(1, 10); 64]);
 }
 
+/// The fields that are partial at or below a reader, and those partial elsewhere.
+const PARTIAL: [(&[usize], &[usize]); 4] = [
+    (&[4], &[5, 6, 7]),
+    (&[4, 5], &[6, 7]),
+    (&[4, 6], &[5, 7]),
+    (&[4, 5, 6, 7], &[]),
+];
+
 #[test]
-fn any_partial_field_asked_refuses_all_of_it() {
-    for reader in 0..4 {
-        gives(PARTIAL_ASKED, 0, &quiet(reader, &[4]));
-        gives(PARTIAL_ASKED, 2, &quiet(reader, &[0, 3, 4, 1, 4]));
-        let mut late = vec![0; 63];
-        late.push(4);
-        gives(PARTIAL_ASKED, 63, &quiet(reader, &late));
+fn a_partial_field_at_or_below_the_reader_refuses_all_of_it() {
+    for (reader, (refusing, _)) in (0..).zip(PARTIAL) {
+        for &field in refusing {
+            gives(PARTIAL_ASKED, 0, &quiet(reader, &[field]));
+            gives(PARTIAL_ASKED, 2, &quiet(reader, &[0, 3, field, 1, 4]));
+            let mut late = vec![0; 63];
+            late.push(field);
+            gives(PARTIAL_ASKED, 63, &quiet(reader, &late));
+        }
     }
+}
+
+#[test]
+fn a_partial_field_elsewhere_is_withheld_beside_open_ones() {
+    for (reader, (_, withheld)) in (0..).zip(PARTIAL) {
+        for &field in withheld {
+            answers(&quiet(reader, &[field]), &[WITHHELD]);
+            answers(&quiet(reader, &[0, field]), &[(1, 10), WITHHELD]);
+            answers(
+                &quiet(reader, &[field, 3, 0]),
+                &[WITHHELD, WITHHELD, (1, 10)],
+            );
+            answers(&quiet(reader, &[field; 64]), &[WITHHELD; 64]);
+        }
+    }
+    // One above the reader and one beside it.
+    answers(
+        &quiet(1, &[7, 1, 6, 0, 2]),
+        &[WITHHELD, (1, -11), WITHHELD, (1, 10), WITHHELD],
+    );
+}
+
+#[test]
+fn a_withheld_partial_field_before_the_one_that_refuses_is_not_told() {
+    gives(PARTIAL_ASKED, 1, &quiet(0, &[7, 4]));
+    gives(PARTIAL_ASKED, 3, &quiet(0, &[5, 6, 7, 4, 4]));
+    gives(PARTIAL_ASKED, 2, &quiet(1, &[6, 1, 5, 7, 4]));
+    gives(PARTIAL_ASKED, 1, &quiet(2, &[5, 6]));
+    gives(PARTIAL_ASKED, 0, &quiet(2, &[6, 5]));
+    let mut late = vec![7; 63];
+    late.push(5);
+    gives(PARTIAL_ASKED, 63, &quiet(1, &late));
+    answers(&quiet(2, &late), &[WITHHELD; 64]);
+}
+
+#[test]
+fn every_partial_field_refuses_top() {
+    for field in 4..8 {
+        gives(PARTIAL_ASKED, 1, &quiet(3, &[3, field]));
+    }
+    let one_level = HandOut {
+        sheet: Parts::of(&[1], 2, skip()).bytes(),
+        store: store(&[whole(0, 5), partial(0, 6)]),
+        ..quiet(0, &[0, 1])
+    };
+    gives(PARTIAL_ASKED, 1, &one_level);
 }
 
 #[test]
@@ -104,7 +164,7 @@ fn request_sizes_counts_and_field_numbers() {
     gives(REQUEST, 0, &with(request(&[0; 65])));
     gives(REQUEST, 0, &with(request(&vec![0; 65_535])));
     gives(REQUEST, 0, &with(vec![0xff, 0xff]));
-    for field in [5, 6, 64, 256, 65_535] {
+    for field in [8, 9, 64, 256, 65_535] {
         gives(REQUEST, 0, &with(request(&[field])));
         gives(REQUEST, 0, &with(request(&[0, field])));
     }
@@ -119,7 +179,7 @@ fn output_lengths() {
     }
     let output = vec![9; 300];
     let call = quiet(0, &[0, 1]);
-    answers(&HandOut { output, ..call }, &[(1, 10), BLANK]);
+    answers(&HandOut { output, ..call }, &[(1, 10), WITHHELD]);
 }
 
 #[test]
@@ -134,7 +194,7 @@ fn any_mark_it_knows() {
 
 #[test]
 fn the_place_of_a_faulty_node_is_told() {
-    let sheet = Parts::of(&[15, 10, 12, 8], 5, assign(5, constant(0))).bytes();
+    let sheet = Parts::of(&[15, 10, 12, 8], 8, assign(8, constant(0))).bytes();
     gives(
         NODE_RANGE,
         1,
@@ -147,7 +207,7 @@ fn the_place_of_a_faulty_node_is_told() {
 
 #[test]
 fn the_first_failing_row_in_the_order_is_told() {
-    let mut call = quiet(0, &[0, 4]);
+    let mut call = quiet(0, &[7, 4]);
     gives(PARTIAL_ASKED, 1, &call);
     call.output.pop();
     gives(OUTPUT, 0, &call);

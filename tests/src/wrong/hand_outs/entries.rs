@@ -7,7 +7,11 @@ use crate::model::store::Marked;
 use crate::wrong::calls::{in_rules, Faults};
 
 pub fn hand_outs() -> Vec<WrongHandOut> {
-    in_rules! { crate::model::hand_out::rules; entry: ENTRIES }
+    in_rules! {
+        crate::model::hand_out::rules;
+        entry: ENTRIES,
+        entry: PARTIAL_ELSEWHERE,
+    }
 }
 
 pub type Entry = fn(&Levels, usize, Marked) -> (u8, i64);
@@ -84,4 +88,36 @@ const ENTRIES: Faults<Entry> = &[
         let (flag, value) = right(levels, reader, field);
         (flag, i64::from(value as i16))
     }),
+];
+
+/// The document's rule, with this told of a partial field. One at or below the reader
+/// has been refused.
+fn elsewhere(told: (u8, i64), levels: &Levels, reader: usize, field: Marked) -> (u8, i64) {
+    match field.mark.partial {
+        true => told,
+        false => right(levels, reader, field),
+    }
+}
+
+const PARTIAL_ELSEWHERE: Faults<Entry> = &[
+    (
+        "a partial field elsewhere told as open",
+        |levels, reader, field| elsewhere((1, field.value), levels, reader, field),
+    ),
+    (
+        "a partial field elsewhere told as an open 0",
+        |levels, reader, field| elsewhere((1, 0), levels, reader, field),
+    ),
+    (
+        "the value of a partial field elsewhere behind the 0",
+        |levels, reader, field| elsewhere((0, field.value), levels, reader, field),
+    ),
+    (
+        "a partial field elsewhere told as such",
+        |levels, reader, field| elsewhere((2, 0), levels, reader, field),
+    ),
+    (
+        "the mark of a partial field elsewhere for the 0",
+        |levels, reader, field| elsewhere((field.mark.byte(), 0), levels, reader, field),
+    ),
 ];

@@ -3,6 +3,7 @@
 use super::WrongHandOut;
 use crate::model::hand_out::asked;
 use crate::model::hand_out::rules::{length, DOCUMENT};
+use crate::model::marks::Mark;
 use crate::model::number::{MARK, OUTPUT, PARTIAL_ASKED, REQUEST, STORE};
 use crate::model::sheet::Sheet;
 use crate::model::store::{count, entries};
@@ -34,9 +35,7 @@ const LATER: [Row<HandOut>; 5] = [
         count.is_some_and(|count| call.output.len() < length(count))
     }),
     (PARTIAL_ASKED, |call| {
-        let mark = |field| entries(&call.store).map(|(mark, _)| mark).nth(field);
-        let mut marks = asked(&call.request).filter_map(mark);
-        marks.any(|mark| (16..32).contains(&mark))
+        sheet_of(call).is_some_and(|sheet| partial_asked(&sheet, call))
     }),
 ];
 
@@ -51,4 +50,16 @@ fn request_fails(sheet: &Sheet, call: &HandOut) -> bool {
     });
     let mut fields = asked(&call.request);
     !(reader && size && fields.all(|field| (DOCUMENT.field_is_known)(sheet, field)))
+}
+
+/// Of a reader that is known; fields and marks that are not known are passed over.
+fn partial_asked(sheet: &Sheet, call: &HandOut) -> bool {
+    let reader = call.reader as usize;
+    let refuses = |mark: u8| {
+        let known = Mark::read(mark).filter(|mark| mark.level < sheet.levels.count());
+        known.is_some_and(|mark| mark.partial && sheet.levels.at_or_below(mark.level, reader))
+    };
+    let mark = |field| entries(&call.store).map(|(mark, _)| mark).nth(field);
+    let mut marks = asked(&call.request).filter_map(mark);
+    (DOCUMENT.reader_is_known)(&sheet.levels, call.reader) && marks.any(refuses)
 }

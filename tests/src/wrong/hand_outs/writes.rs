@@ -1,12 +1,13 @@
 //! Hand-outs wrong about what they answer and write, on success and on refusal.
 
 use super::WrongHandOut;
-use crate::model::hand_out::rules::{Rules, DOCUMENT};
-use crate::model::hand_out::{asked, hand_out_by, request};
+use crate::model::hand_out::rules::{length, Rules, DOCUMENT};
+use crate::model::hand_out::{asked, hand_out_by, request, Asked};
 use crate::model::number::{DONE, NODE_RANGE, OUTPUT, PARTIAL_ASKED, REQUEST};
 use crate::model::store::ENTRY_BYTES;
 use crate::model::{Answer, HandOut, Outcome};
 use crate::wrong::calls::{entries, fitting, Answering, Faults, Making, Spoiling, Writing};
+use std::ops::Range;
 
 pub fn hand_outs() -> Vec<WrongHandOut> {
     let on_success = ON_SUCCESS.iter().copied().map(WrongHandOut::writing);
@@ -46,6 +47,31 @@ const ON_SUCCESS: Faults<Writing<HandOut>> = &[
             }
         }
     }),
+    (
+        "a partial field elsewhere left out of the answer",
+        |call, written| {
+            leave_out(&partial_elsewhere(call), written);
+            let left = (entries(written).count() as u16).to_le_bytes();
+            written[..2].copy_from_slice(&left);
+        },
+    ),
+    (
+        "a partial field elsewhere left out, the count kept",
+        |call, written| leave_out(&partial_elsewhere(call), written),
+    ),
+    (
+        "a partial field elsewhere and all behind it left out",
+        |call, written| {
+            if let Some(first) = partial_elsewhere(call).first() {
+                written.truncate(first.start);
+            }
+        },
+    ),
+    ("a partial field elsewhere not written", |call, written| {
+        for entry in partial_elsewhere(call) {
+            written[entry.clone()].copy_from_slice(&call.output[entry]);
+        }
+    }),
     ("the answers in the fields' order", |call, written| {
         let mut order: Vec<(usize, usize)> = asked(&call.request).zip(0..).collect();
         order.sort_unstable();
@@ -72,6 +98,23 @@ const ON_SUCCESS: Faults<Writing<HandOut>> = &[
         *written = hand_out_by(&UNREFUSED, &numbered).written;
     }),
 ];
+
+/// Where an answer's partial fields stand, all of them withheld.
+fn partial_elsewhere(call: &HandOut) -> Vec<Range<usize>> {
+    let asked = Asked::checked(&DOCUMENT, call);
+    let marked = asked.iter().flat_map(Asked::marked).enumerate();
+    let partial = marked.filter(|(_, field)| field.mark.partial);
+    partial
+        .map(|(position, _)| length(position)..length(position + 1))
+        .collect()
+}
+
+/// Takes these entries out.
+fn leave_out(left_out: &[Range<usize>], written: &mut Vec<u8>) {
+    for entry in left_out.iter().rev() {
+        written.drain(entry.clone());
+    }
+}
 
 /// Whatever is partial.
 const UNREFUSED: Rules = Rules {

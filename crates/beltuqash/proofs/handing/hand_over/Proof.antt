@@ -1,4 +1,4 @@
--- A partial field is found before anything is written, and without one the request is answerable.
+-- A field that refuses is found before anything is written, and without one the request is answerable.
 use borrow.Author.Needs.{needs}
 use Prim.Native.Nat.{ℕ, _≤_}
 use native.Mathlib.Omega.{arith}
@@ -6,11 +6,13 @@ use native.Mathlib.Nat.{le-antisymm}
 use mathlib.Core.Path.{_≡_, refl, ap, _∙_}
 use denote.Ref.{now}
 use Rattle.basis.proofs.Tests.{first-most}
+use Rattle.levels.specs.Lattice.{lattice}
+use Rattle.sheet.specs.Sections.{levelsOf}
 use Rattle.sheet.specs.Load.{fieldCount}
 use Rattle.rules.specs.Stores.{storeOf}
 use Rattle.handout.specs.Requests.{askedCount}
-use Rattle.handout.specs.Answers.{firstPartial}
-use Rattle.handout.specs.Asks.{Asks}
+use Rattle.handout.specs.Answers.{firstRefusing}
+use Rattle.handout.specs.Asks.{AsksAs}
 use Rattle.handout.proofs.Requesting.{right-has}
 use Rattle.beltuqash.specs.Answer.{answer, wordOf}
 use Rattle.beltuqash.proofs.Checking.{has-same, fits-long}
@@ -18,70 +20,71 @@ use Rattle.beltuqash.proofs.HandingOut.{told-18, answered}
 use Rattle.beltuqash.proofs.handing.hand_over.Statement.{statement}
 use Rattle.beltuqash.proofs.handing.hand_over.Tie as tie
 
-abbrev asks : (start : tie.Start) → Asks (now (start .args .store)) (now (start .args .request))
-asks start =
+asks-as : (start : tie.Start) → let a = start .args in AsksAs (levelsOf (now (a .sheet))) (now (a .store)) (a .reader) (now (a .request))
+asks-as start =
     let given = start .pre in
-    record { fields = fieldCount (now (start .args .sheet)); long = fits-long _ _ (given .fits); right = given .right }
+    record {
+      asks = record { fields = fieldCount (now (start .args .sheet)); long = fits-long _ _ (given .fits); right = given .right };
+      order = given .loaded .levels;
+      reader-known = given .reader-known;
+      marks = given .marks;
+    }
 
-abbrev start-of : tie.After-count → tie.Start
-start-of c = c .before .before .before .before .before .before
+abbrev start-of : tie.After-levels → tie.Start
+start-of c = c .before .before .before .before .before
 
-abbrev partial-of : tie.After-count → ℕ
-partial-of c = let a = start-of c .args in firstPartial (storeOf (now (a .store))) (now (a .request))
+abbrev first-of : tie.After-count → ℕ
+first-of c = let a = start-of (c .before .before) .args in firstRefusing (lattice (levelsOf (now (a .sheet)))) (a .reader) (storeOf (now (a .store))) (now (a .request))
 
-first-is : (c : tie.After-count) → c .before .first-partial .result ≡ partial-of c
-first-is c = c .before .first-partial .ensures
+first-is : (c : tie.After-count) → c .before .first-refusing .result ≡ first-of c
+first-is c = rw (c .before .before .levels .ensures) at (c .before .first-refusing .ensures)
 
-first-partial-requires : tie.Need-first-partial-requires
-first-partial-requires c κs = asks (c .before .before .before .before)
+first-refusing-requires : tie.Need-first-refusing-requires
+first-refusing-requires c κs = rw (c .levels .ensures) (asks-as (start-of c))
 
 count-requires : tie.Need-count-requires
-count-requires c κs = omega (arith, right-has _ _ (c .before .before .before .before .before .pre .right) .size)
+count-requires c κs = omega (arith, right-has _ _ (start-of (c .before) .pre .right) .size)
 
 returns : tie.Need-returns
 returns c =
     let counted = c .before .before in
-    let a = start-of counted .args in
+    let a = start-of (counted .before .before) .args in
     has-same (told-18 _ _ (a .reader) _ _ (omega (arith, c .before .if1 .taken, first-is counted, counted .count .ensures .0)))
     (c .pack .ensures ∙ ap (λ (place : ℕ). wordOf (answer 18 place 0)) (first-is counted), refl)
 
-none-partial : (c : tie.Else1) → askedCount (now (start-of (c .before) .args .request)) ≤ partial-of (c .before)
-none-partial c = omega (arith, c .if1 .left, first-is (c .before), c .before .count .ensures .0)
+none-refuses : (c : tie.Else1) → askedCount (now (start-of (c .before .before .before) .args .request)) ≤ first-of (c .before)
+none-refuses c = omega (arith, c .if1 .left, first-is (c .before), c .before .count .ensures .0)
 
 give-requires : tie.Need-give-requires
-unfolding firstPartial
+unfolding firstRefusing
 give-requires c κs =
-    let levels = c .before in
-    let else = levels .before in
-    let start = start-of (else .before) in
-    let given = start .pre in
+    let else = c .before in
+    let levels = else .before .before .before in
+    let start = start-of levels in
     rw (levels .levels .ensures) (record {
-      asks = asks start;
-      order = given .loaded .levels;
-      reader-known = given .reader-known;
-      marks = given .marks;
-      none-partial = le-antisymm (first-most _ _) (none-partial else);
-      room = given .room;
+      asks-as = asks-as start;
+      none-refuses = le-antisymm (first-most _ _) (none-refuses else);
+      room = start .pre .room;
     })
 
 returns-2 : tie.Need-returns-2
 returns-2 c =
     let gave = c .before .before .before in
-    let levels = gave .before .before in
-    let else = levels .before in
-    let a = start-of (else .before) .args in
-    has-same (answered _ _ (a .reader) _ _ (none-partial else)) (c .pack2 .ensures, rw (levels .levels .ensures) at (gave .give .ensures))
+    let else = gave .before .before in
+    let levels = else .before .before .before in
+    let a = start-of levels .args in
+    has-same (answered _ _ (a .reader) _ _ (none-refuses else)) (c .pack2 .ensures, rw (levels .levels .ensures) at (gave .give .ensures))
 
 pub hand-over-spec : {M : Type 1} → statement M
 hand-over-spec =
     tie.close
     (tie.spec
-    first-partial-requires
+    (λ c κs. search needs)
+    first-refusing-requires
     count-requires
     (λ c. search needs)
     (λ c κs. search needs)
     returns
-    (λ c κs. search needs)
     give-requires
     (λ c κs. search needs)
     (λ c. search needs)

@@ -9,19 +9,15 @@ use lib.ListN.{length, length-set}
 use lib.Seq.{sets}
 use denote.Ref.{now}
 use Rattle.basis.proofs.Tests.{None, none-first}
-use Rattle.levels.specs.Levels.{count}
 use Rattle.levels.specs.Lattice.{Lattice, lattice}
 use Rattle.rules.specs.Rules.{Cell, Store}
-use Rattle.rules.specs.Marks.{Mark, permissive}
+use Rattle.rules.specs.Marks.{Mark}
 use Rattle.rules.specs.Stores.{entryAt, storeOf}
-use Rattle.flow.specs.Words.{cellIn, markIn}
-use Rattle.flow.proofs.Marking.{known-is, marks-known}
-use Rattle.flow.proofs.Entries.{same-mark}
 use Rattle.flow.proofs.Filling.{headed, headed-length, filled, fill-first, fill-next, fill-last}
-use Rattle.handout.specs.Requests.{askedCount, fieldAsked}
-use Rattle.handout.specs.Answers.{asksPartial, firstPartial, shown, allShown, answerBytes}
-use Rattle.handout.proofs.Requesting.{Right, right-has}
-use Rattle.handout.proofs.Answering.{whole-low, none-shown, one-shown-more, entry-length, entries-length}
+use Rattle.handout.specs.Requests.{askedCount}
+use Rattle.handout.specs.Answers.{shown, allShown, answerBytes, refusesAt, firstRefusing}
+use Rattle.handout.proofs.Requesting.{right-has}
+use Rattle.handout.proofs.Answering.{faces, none-shown, one-shown-more, entry-length, entries-length}
 use Rattle.handout.proofs.answers.give.Statement.{statement}
 use Rattle.handout.proofs.answers.give.Tie as tie
 
@@ -45,18 +41,16 @@ store-of c = storeOf (now (start-of c .args .store))
 abbrev request-of : tie.After-count Inv-loop μ-loop → List ℕ
 request-of c = now (start-of c .args .request)
 
-request-right : (start : tie.Start Inv-loop μ-loop) → Right (start .pre .asks .fields) (now (start .args .request))
-request-right start = right-has _ _ (start .pre .asks .right)
-
-none-partial : (c : tie.After-count Inv-loop μ-loop) → None (askedCount (request-of c)) (asksPartial (store-of c) (request-of c))
-unfolding firstPartial
-none-partial c = none-first _ _ (start-of c .pre .none-partial)
+none-refuses : (c : tie.After-count Inv-loop μ-loop) →
+    None (askedCount (request-of c)) (refusesAt (rows-of c) (start-of c .args .reader) (store-of c) (request-of c))
+unfolding firstRefusing
+none-refuses c = none-first _ _ (start-of c .pre .none-refuses)
 
 inside : (c : tie.In-loop Inv-loop μ-loop) → c .before .loop .i < askedCount (request-of (c .before .before))
 inside c = omega (arith, c .loop-test .taken, c .before .before .count .ensures .0)
 
 count-requires : tie.Need-count-requires Inv-loop μ-loop
-count-requires c κs = omega (arith, request-right (c .before .before .before .before) .size)
+count-requires c κs = omega (arith, right-has _ _ (c .before .before .before .before .pre .asks-as .asks .right) .size)
 
 slice-write-answer : tie.Need-slice-write-answer Inv-loop μ-loop
 slice-write-answer c = omega (arith, start-of c .pre .room)
@@ -75,51 +69,27 @@ loop-holds c =
       refl,
     )
 
-field-at-requires : tie.Need-field-at-requires Inv-loop μ-loop
-field-at-requires c κs =
-    let in-loop = c .before in
-    omega (arith, inside in-loop, request-right (start-of (in-loop .before .before)) .size)
-
--- the field asked for is the sheet's
-abbrev asked-by : tie.After-field-at Inv-loop μ-loop → ℕ
-asked-by c = let in-loop = c .before .before in fieldAsked (request-of (in-loop .before .before)) (in-loop .before .loop .i)
-
-field-known : (c : tie.After-field-at Inv-loop μ-loop) → asked-by c < start-of (c .before .before .before .before) .pre .asks .fields
-field-known c = let in-loop = c .before .before in request-right (start-of (in-loop .before .before)) .known _ (inside in-loop)
-
-entry-at-requires : tie.Need-entry-at-requires Inv-loop μ-loop
-entry-at-requires c κs = omega (arith, c .field-at .ensures .0, field-known c, start-of (c .before .before .before .before) .pre .asks .long)
-
--- the word read has the field's cell, and its mark is a level
-cell-is : (c : tie.After-entry-at Inv-loop μ-loop) → cellIn (c .entry-at .result) ≡ store-of (c .before .before .before .before .before) (asked-by (c .before))
-cell-is c = c .entry-at .ensures .0 ∙ ap (store-of (c .before .before .before .before .before)) (c .before .field-at .ensures .0)
-
-mark-level : (c : tie.After-entry-at Inv-loop μ-loop) → markIn (c .entry-at .result) < count (now (start-of (c .before .before .before .before .before) .args .rows))
-mark-level c =
-    let field = c .before in
-    let in-loop = field .before .before in
-    let counted = in-loop .before .before in
-    let given = start-of counted .pre in
-    let known = known-is _ _ (marks-known permissive _ _ _ (given .marks) (asked-by field) (field-known field)) .1 in
-    let low = whole-low _ _ (none-partial counted _ (inside in-loop)) in
-    omega (arith, same-mark _ _ _ (cell-is c))
+asked-at-requires : tie.Need-asked-at-requires Inv-loop μ-loop
+asked-at-requires c κs = let in-loop = c .before in (start-of (in-loop .before .before) .pre .asks-as .asks, inside in-loop)
 
 show-requires : tie.Need-show-requires Inv-loop μ-loop
 show-requires c κs =
-    let in-loop = c .before .before .before in
+    let in-loop = c .before .before in
     let at-loop = in-loop .before in
-    let start = start-of (at-loop .before) in
-    let asked = at-loop .before .count .result % 256 in
+    let counted = at-loop .before in
+    let start = start-of counted in
+    let asked = counted .count .result % 256 in
     let long = headed-length asked (now (start .args .answer)) in (
       omega (arith, inside in-loop, start .pre .room, at-loop .loop .inv .2),
-      record { rows = start .pre .order; first = mark-level c; second = start .pre .reader-known },
+      faces (start .pre .asks-as) _ _ (inside in-loop) (c .asked-at .ensures),
+      rw (c .asked-at .ensures) (none-refuses counted _ (inside in-loop)),
     )
 
 loop-again : tie.Need-loop-again Inv-loop μ-loop
 loop-again c =
     let call = c .before .before in
     let word = call .before in
-    let in-loop = word .before .before .before in
+    let in-loop = word .before .before in
     let at-loop = in-loop .before in
     let counted = at-loop .before in
     let a = start-of counted .args in
@@ -131,10 +101,10 @@ loop-again c =
     let inv = at-loop .loop .inv in
     let asked = counted .count .result % 256 in
     let less = inside in-loop in
-    let none = none-partial counted in (
+    let none = none-refuses counted in (
       omega (arith, in-loop .loop-test .taken),
       call .show .ensures
-          ∙ ap₂ (λ (l : List ℕ) (d : Cell Mark). sets l (entryAt i) (shown 𝓛 (a .reader) d)) (inv .1) (cell-is word)
+          ∙ ap₂ (λ (l : List ℕ) (d : Cell Mark). sets l (entryAt i) (shown 𝓛 (a .reader) d)) (inv .1) (word .asked-at .ensures)
           ∙ fill-next asked (allShown 𝓛 (a .reader) σ request i) _ i (headed asked z)
           (entries-length 𝓛 (a .reader) σ request i (λ j h. none j (omega arith)))
           (entry-length 𝓛 (a .reader) σ request _ none i less)
@@ -174,8 +144,7 @@ give-spec =
     loop-holds
     (λ c. search needs)
     (λ c. search needs)
-    field-at-requires
-    entry-at-requires
+    asked-at-requires
     show-requires
     (λ c. search needs)
     (λ c. search needs)

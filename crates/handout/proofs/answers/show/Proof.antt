@@ -1,28 +1,19 @@
 -- The order of the field's level and the reader's says which entry is shown.
 use borrow.Author.Needs.{needs}
-use mathlib.Core.Path.{_≡_, sym, ap, _∙_}
+use mathlib.Core.Path.{sym, ap, _∙_}
 use mathlib.Core.List.{_∷_}
 use lib.IntN.{ℤ}
 use lib.Seq.{sets}
 use denote.Ref.{now}
 use Rattle.value.specs.Bytes.{ofBits, bytesOf}
 use Rattle.value.specs.declared.Value.{Value}
-use Rattle.levels.specs.Levels.{below}
-use Rattle.flow.specs.Words.{markIn}
-use Rattle.handout.proofs.Answering.{shown-below, shown-elsewhere}
+use Rattle.handout.proofs.Alike.{shown-elsewhere}
+use Rattle.handout.proofs.Answering.{shown-below}
 use Rattle.handout.proofs.answers.show.Statement.{statement}
 use Rattle.handout.proofs.answers.show.Tie as tie
 
 abbrev start-of : tie.After-at-or-below → tie.Start
-start-of c = c .before .before .before .before
-
-order-is : (c : tie.After-at-or-below) →
-    let a = start-of c .args in
-    below (now (a .rows)) (markIn (a .word)) (a .reader) ≡ c .at-or-below .result
-order-is c = sym (rw (c .before .mark-in .ensures) at (c .at-or-below .ensures))
-
-at-or-below-requires : tie.Need-at-or-below-requires
-at-or-below-requires c κs = rw (c .mark-in .ensures) (c .before .before .before .pre .1)
+start-of c = c .before .before .before
 
 returns : tie.Need-returns
 returns c =
@@ -34,7 +25,7 @@ returns c =
     let a = start .args in
     call .put-entry .ensures
     ∙ ap (λ (v : Value). sets (now (a .answer)) (a .at) (1 ∷ bytesOf (v .n))) (value .value-in .ensures)
-    ∙ ap (sets (now (a .answer)) (a .at)) (sym (shown-below _ _ _ (start .pre .1) (order-is order ∙ then .if1 .taken)))
+    ∙ ap (sets (now (a .answer)) (a .at)) (sym (shown-below _ _ _ _ (start .pre .2) (sym (order .at-or-below .ensures) ∙ then .if1 .taken)))
 
 returns-2 : tie.Need-returns-2
 unfolding ofBits
@@ -43,19 +34,16 @@ returns-2 c =
     let zero = call .before in
     let else = zero .before .before in
     let order = else .before in
-    let start = start-of order in
-    let a = start .args in
+    let a = start-of order .args in
     call .put-entry2 .ensures
     ∙ ap (λ (z : ℤ). sets (now (a .answer)) (a .at) (0 ∷ bytesOf z)) (zero .of-bits .ensures)
-    ∙ ap (sets (now (a .answer)) (a .at)) (sym (shown-elsewhere _ _ _ (start .pre .1) (order-is order ∙ else .if1 .left)))
+    ∙ ap (sets (now (a .answer)) (a .at)) (sym (shown-elsewhere _ _ _ _ (sym (order .at-or-below .ensures) ∙ else .if1 .left)))
 
 pub show-spec : {M : Type 1} → statement M
 show-spec =
     tie.close
     (tie.spec
     (λ c κs. search needs)
-    (λ c. search needs)
-    at-or-below-requires
     (λ c κs. search needs)
     (λ c κs. search needs)
     (λ c κs. search needs)
