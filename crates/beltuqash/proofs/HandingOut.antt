@@ -13,9 +13,9 @@ use Rattle.sheet.specs.Load.{fieldCount}
 use Rattle.rules.specs.Marks.{permissive}
 use Rattle.rules.specs.Stores.{storeOf}
 use Rattle.handout.specs.Requests.{askedCount, requestRight}
-use Rattle.handout.specs.Answers.{answerLength, answerBytes, firstRefusing}
+use Rattle.handout.specs.Answers.{answerLength, answerBytes}
 use Rattle.beltuqash.specs.Answer.{answer}
-use Rattle.beltuqash.specs.Calls.{Outcome, refuse, handed, handOut}
+use Rattle.beltuqash.specs.Calls.{Outcome, refuse, refusedPosition, handed, handOut}
 use Rattle.beltuqash.specs.Checks.{Taken, Judged}
 use Rattle.beltuqash.proofs.Checking.{taken-next, judged-refusal}
 
@@ -41,14 +41,12 @@ module _ (sheet store : List ℕ) (reader : ℕ) (request out : List ℕ) where
       unfolding handOut
       goes-on e = taken-next taken out _ ∙ rw (a, e)
 
-  abbrev first : ℕ
-  first = firstRefusing (lattice (levelsOf sheet)) reader (storeOf store) request
-
-  pub told-18 : first < askedCount request → handed sheet store reader request out ≡ refuse 18 first out
+  pub told-18 : refusedPosition sheet store reader request < askedCount request
+      → handed sheet store reader request out ≡ refuse 18 (refusedPosition sheet store reader request) out
   unfolding handed
   told-18 h = rw (lt-ltb _ _ h)
 
-  pub answered : askedCount request ≤ first
+  pub answered : askedCount request ≤ refusedPosition sheet store reader request
       → handed sheet store reader request out ≡ record {
         answer = answer 0 0 0;
         out = answerBytes (lattice (levelsOf sheet)) reader (storeOf store) request ++ drop (answerLength request) out;

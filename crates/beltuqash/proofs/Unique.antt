@@ -25,10 +25,10 @@ use Rattle.rules.specs.Marks.{Mark, Mode, permissive, modeOf, marking}
 use Rattle.rules.specs.Stores.{storeLength, storeOf, storeFits, marksRight}
 use Rattle.rules.proofs.Stops.{EndUpTo, upto-done, upto-spent, upto-stopped, cmd-upto, exec-upto}
 use Rattle.handout.specs.Requests.{askedCount, requestRight}
-use Rattle.handout.specs.Answers.{answerLength, firstRefusing}
+use Rattle.handout.specs.Answers.{answerLength}
 use Rattle.handout.proofs.Requesting.{right-has}
 use Rattle.beltuqash.specs.Answer.{Answer, wordOf}
-use Rattle.beltuqash.specs.Calls.{Outcome, check, checkStore, load, ended, runFrom, run, handed, handOut}
+use Rattle.beltuqash.specs.Calls.{Outcome, check, checkStore, load, ended, runFrom, run, refusedPosition, handed, handOut}
 use Rattle.beltuqash.specs.Checks.{Taken}
 use Rattle.beltuqash.proofs.Checking.{nodes-long}
 
@@ -157,7 +157,7 @@ module _ (sheet store : List ℕ) (reader : ℕ) (request out : List ℕ) where
   unfolding handed
   handed-range right =
       let few = right-has _ _ right .few in
-      let first = firstRefusing (lattice (levelsOf sheet)) reader (storeOf store) request in
+      let first = refusedPosition sheet store reader request in
       split (ltb first (askedCount request))
       (λ t. let inside = ltb-true first (askedCount request) t in rw t (record { number = (omega arith, λ e. omega arith); place = omega arith; units = omega arith }))
       (λ f. rw f (record { number = (omega arith, λ e. omega arith); place = omega arith; units = omega arith }))

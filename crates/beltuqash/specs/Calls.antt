@@ -62,12 +62,16 @@ run sheet store mode fuel out =
     (check (leb (storeLength (fieldCount sheet)) (length out)) 11 0 out  -- output shorter than the store
     (runFrom sheet store mode fuel out)))
 
+-- 18: where a request is refused, by the sheet's levels and the store; the count if nowhere
+abbrev pub refusedPosition : List ℕ → List ℕ → ℕ → List ℕ → ℕ
+refusedPosition sheet store reader request = firstRefusing (lattice (levelsOf sheet)) reader (storeOf store) request
+
 -- a right request, handed out from a store that fits. A partial field at or below the reader refuses all of it: 18, first such position in the request.
 -- Success writes exactly the answer; later bytes stay.
 unfoldable pub handed : List ℕ → List ℕ → ℕ → List ℕ → List ℕ → Outcome
 handed sheet store reader request out =
-    cond (ltb (firstRefusing (lattice (levelsOf sheet)) reader (storeOf store) request) (askedCount request))
-    (refuse 18 (firstRefusing (lattice (levelsOf sheet)) reader (storeOf store) request) out)
+    cond (ltb (refusedPosition sheet store reader request) (askedCount request))
+    (refuse 18 (refusedPosition sheet store reader request) out)
     (record {
       answer = answer 0 0 0;
       out = answerBytes (lattice (levelsOf sheet)) reader (storeOf store) request ++ drop (answerLength request) out;

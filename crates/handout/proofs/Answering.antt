@@ -1,12 +1,13 @@
--- What an answer shows: which fields refuse, an entry of five bytes for each that does not, and the entries so far.
+-- What an answer shows: which fields refuse, an entry of five bytes for each that does not, and the entries of a request that none refuses.
 use Prim.Native.Nat.{ℕ, zero, suc, _+_, _*_, _≤_, _<_}
 use native.Mathlib.Omega.{arith}
+use native.Mathlib.Nat.{le-antisymm}
 use native.Mathlib.Numerals.{add-one}
 use mathlib.Core.Path.{_≡_, refl, sym, ap, _∙_}
 use mathlib.Core.Bool.{true, false, true≢false}
 use mathlib.Core.List.{List, [], _∷_, _++_}
 use lib.ListN.{length, length-append}
-use Rattle.basis.proofs.Tests.{split, None}
+use Rattle.basis.proofs.Tests.{split, None, first-most, none-first}
 use Rattle.value.specs.Bytes.{bytesOf}
 use Rattle.value.specs.declared.Value.{Value}
 use Rattle.levels.specs.Lattice.{Lattice}
@@ -17,7 +18,7 @@ use Rattle.flow.specs.Words.{cellIn}
 use Rattle.flow.proofs.Marking.{marks-known, mark-whole, mark-partial}
 use Rattle.flow.proofs.Entries.{same-mark}
 use Rattle.handout.specs.Requests.{askedCount, fieldAsked}
-use Rattle.handout.specs.Answers.{shown, allShown, refuses, refusesAt}
+use Rattle.handout.specs.Answers.{shown, allShown, refuses, refusesAt, firstRefusing}
 use Rattle.handout.specs.Asks.{Faces, AsksAs}
 use Rattle.handout.proofs.Requesting.{right-has}
 use Rattle.handout.proofs.Alike.{shown-elsewhere}
@@ -55,9 +56,14 @@ module _ (𝓛 : Lattice) (reader : ℕ) where
   shown-length (cell v m) passes =
       split (𝓛 .le (levelOf m) reader) (λ t. ap length (shown-below v m passes t)) (λ f. ap length (shown-elsewhere 𝓛 reader v m f))
 
-  -- ── the entries so far ────────────────────────────────────────────────────────────────────
+  -- ── a request ─────────────────────────────────────────────────────────────────────────────
 
   module _ (σ : Store Mark) (request : List ℕ) where
+    pub none-refuses : askedCount request ≤ firstRefusing 𝓛 reader σ request → None (askedCount request) (refusesAt 𝓛 reader σ request)
+    unfolding firstRefusing
+    none-refuses h = none-first _ _ (le-antisymm (first-most _ _) h)
+
+    -- the entries so far
     pub none-shown : allShown 𝓛 reader σ request 0 ≡ []
     unfolding allShown
     none-shown = refl

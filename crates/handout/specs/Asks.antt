@@ -34,5 +34,5 @@ pub record AsksAs (rows store : List ℕ) (reader : ℕ) (request : List ℕ) : 
 -- that no field refuses, with room for the answer
 pub record Answerable (rows store : List ℕ) (reader : ℕ) (request answer : List ℕ) : Type 0 where
   pub asks-as : AsksAs rows store reader request
-  pub none-refuses : firstRefusing (lattice rows) reader (storeOf store) request ≡ askedCount request
+  pub none-refuses : askedCount request ≤ firstRefusing (lattice rows) reader (storeOf store) request
   pub room : answerLength request ≤ length answer

@@ -1,16 +1,15 @@
 -- One request on two stores that agree for its reader: where both are answered, no field refuses, and so both answers are the same bytes.
 use Prim.Native.Nat.{ℕ, _≤_}
-use native.Mathlib.Nat.{le-antisymm}
 use native.Mathlib.Omega.{arith}
 use mathlib.Core.Path.{_≡_, sym, ap, _∙_}
-use mathlib.Core.Bool.{Bool, true, _&&_}
+use mathlib.Core.Bool.{true, _&&_}
 use mathlib.Core.List.{List}
 use borrow.Author.Tests.{eqb-true, ltb-true, ltb-false}
 use lib.Dec.{eqb, ltb, leb}
 use lib.ListN.{length, take}
 use lib.Seq.{take-at}
 use Rattle.basis.specs.Bytes.{wordAt}
-use Rattle.basis.proofs.Tests.{None, both, split, first-most, none-first}
+use Rattle.basis.proofs.Tests.{None, both, split}
 use Rattle.levels.specs.Levels.{count}
 use Rattle.levels.specs.Lattice.{Lattice, Laws, lattice}
 use Rattle.levels.proofs.Laws.{laws}
@@ -23,11 +22,11 @@ use Rattle.rules.specs.Marks.{permissive}
 use Rattle.rules.specs.Stores.{storeLength, storeOf, storeFits, marksRight}
 use Rattle.rules.specs.Agreement.{StoresAgree}
 use Rattle.handout.specs.Requests.{askedCount, fieldAsked, requestRight}
-use Rattle.handout.specs.Answers.{answerLength, answerBytes, refusesAt, firstRefusing}
+use Rattle.handout.specs.Answers.{answerLength, answerBytes, refusesAt}
 use Rattle.handout.proofs.Requesting.{right-has}
-use Rattle.handout.proofs.Answering.{entries-length}
+use Rattle.handout.proofs.Answering.{none-refuses, entries-length}
 use Rattle.handout.proofs.Alike.{answers-alike}
-use Rattle.beltuqash.specs.Calls.{Outcome, handed, handOut}
+use Rattle.beltuqash.specs.Calls.{Outcome, refusedPosition, handed, handOut}
 use Rattle.beltuqash.proofs.Checking.{passed}
 use Rattle.beltuqash.proofs.HandingOut.{told-18, goes-on, answered}
 
@@ -37,14 +36,11 @@ abbrev order : List ℕ → Lattice
 order sheet = lattice (levelsOf sheet)
 
 module _ (sheet : List ℕ) (R : ℕ) (request store lent : List ℕ) where
-  abbrev first : ℕ
-  first = firstRefusing (order sheet) R (storeOf store) request
-
-  abbrev refused : ℕ → Bool
-  refused = refusesAt (order sheet) R (storeOf store) request
+  abbrev position : ℕ
+  position = refusedPosition sheet store R request
 
   abbrev NoneRefuses : Type 0
-  NoneRefuses = None (askedCount request) refused
+  NoneRefuses = None (askedCount request) (refusesAt (order sheet) R (storeOf store) request)
 
   record Replied : Type 0 where
     ordered : Laws (order sheet)
@@ -53,19 +49,15 @@ module _ (sheet : List ℕ) (R : ℕ) (request store lent : List ℕ) where
     none : NoneRefuses
     written : take (answerLength request) (handOut sheet store R request lent .out) ≡ answerBytes (order sheet) R (storeOf store) request
 
-  none-refuses : askedCount request ≤ first → NoneRefuses
-  unfolding firstRefusing
-  none-refuses h = none-first _ refused (le-antisymm (first-most _ refused) h)
-
   reply-length : NoneRefuses → length (answerBytes (order sheet) R (storeOf store) request) ≡ answerLength request
   unfolding answerBytes
   reply-length none = omega (arith, entries-length (order sheet) R (storeOf store) request (askedCount request) none)
 
-  past-18 : handed sheet store R request lent .answer .number ≡ 0 → askedCount request ≤ first
+  past-18 : handed sheet store R request lent .answer .number ≡ 0 → askedCount request ≤ position
   past-18 e =
-      split (ltb first (askedCount request))
+      split (ltb position (askedCount request))
       (λ less. let none : 18 ≡ 0 = sym (ap (λ (x : Outcome). x .answer .number) (told-18 sheet store R request lent (ltb-true _ _ less))) ∙ e in absurd (omega arith))
-      (λ more. ltb-false first (askedCount request) more)
+      (λ more. ltb-false position (askedCount request) more)
 
   replied : handOut sheet store R request lent .answer .number ≡ 0 → Replied
   unfolding handOut
@@ -75,7 +67,7 @@ module _ (sheet : List ℕ) (R : ℕ) (request store lent : List ℕ) where
       let (marks, e₃) = passed (marksRight permissive (count (levelsOf sheet)) (fieldCount sheet) store) 9 0 lent _ (λ e. absurd (omega arith)) e₂ in
       let (asked, e₄) = passed (ltb R (count (levelsOf sheet)) && requestRight (fieldCount sheet) request) 17 0 lent _ (λ e. absurd (omega arith)) e₃ in
       let (room, e₅) = passed (leb (answerLength request) (length lent)) 11 0 lent _ (λ e. absurd (omega arith)) e₄ in
-      let none = none-refuses (past-18 e₅) in
+      let none = none-refuses (order sheet) R (storeOf store) request (past-18 e₅) in
       let is = goes-on sheet store R request lent (record { passes = passes; fits = fits; marks = marks }) asked room ∙ answered sheet store R request lent (past-18 e₅) in
       record {
         ordered = laws (levelsOf sheet) (loaded sheet (passes-is _ passes) .levels);

@@ -2,19 +2,15 @@
 use borrow.Author.Needs.{needs}
 use Prim.Native.Nat.{ℕ, _≤_}
 use native.Mathlib.Omega.{arith}
-use native.Mathlib.Nat.{le-antisymm}
 use mathlib.Core.Path.{_≡_, refl, ap, _∙_}
 use denote.Ref.{now}
-use Rattle.basis.proofs.Tests.{first-most}
-use Rattle.levels.specs.Lattice.{lattice}
 use Rattle.sheet.specs.Sections.{levelsOf}
 use Rattle.sheet.specs.Load.{fieldCount}
-use Rattle.rules.specs.Stores.{storeOf}
 use Rattle.handout.specs.Requests.{askedCount}
-use Rattle.handout.specs.Answers.{firstRefusing}
 use Rattle.handout.specs.Asks.{AsksAs}
 use Rattle.handout.proofs.Requesting.{right-has}
 use Rattle.beltuqash.specs.Answer.{answer, wordOf}
+use Rattle.beltuqash.specs.Calls.{refusedPosition}
 use Rattle.beltuqash.proofs.Checking.{has-same, fits-long}
 use Rattle.beltuqash.proofs.HandingOut.{told-18, answered}
 use Rattle.beltuqash.proofs.handing.hand_over.Statement.{statement}
@@ -34,7 +30,7 @@ abbrev start-of : tie.After-levels → tie.Start
 start-of c = c .before .before .before .before .before
 
 abbrev first-of : tie.After-count → ℕ
-first-of c = let a = start-of (c .before .before) .args in firstRefusing (lattice (levelsOf (now (a .sheet)))) (a .reader) (storeOf (now (a .store))) (now (a .request))
+first-of c = let a = start-of (c .before .before) .args in refusedPosition (now (a .sheet)) (now (a .store)) (a .reader) (now (a .request))
 
 first-is : (c : tie.After-count) → c .before .first-refusing .result ≡ first-of c
 first-is c = rw (c .before .before .levels .ensures) at (c .before .first-refusing .ensures)
@@ -56,14 +52,13 @@ none-refuses : (c : tie.Else1) → askedCount (now (start-of (c .before .before 
 none-refuses c = omega (arith, c .if1 .left, first-is (c .before), c .before .count .ensures .0)
 
 give-requires : tie.Need-give-requires
-unfolding firstRefusing
 give-requires c κs =
     let else = c .before in
     let levels = else .before .before .before in
     let start = start-of levels in
     rw (levels .levels .ensures) (record {
       asks-as = asks-as start;
-      none-refuses = le-antisymm (first-most _ _) (none-refuses else);
+      none-refuses = none-refuses else;
       room = start .pre .room;
     })
 

@@ -8,16 +8,16 @@ use mathlib.Core.List.{List}
 use lib.ListN.{length, length-set}
 use lib.Seq.{sets}
 use denote.Ref.{now}
-use Rattle.basis.proofs.Tests.{None, none-first}
+use Rattle.basis.proofs.Tests.{None}
 use Rattle.levels.specs.Lattice.{Lattice, lattice}
 use Rattle.rules.specs.Rules.{Cell, Store}
 use Rattle.rules.specs.Marks.{Mark}
 use Rattle.rules.specs.Stores.{entryAt, storeOf}
 use Rattle.flow.proofs.Filling.{headed, headed-length, filled, fill-first, fill-next, fill-last}
 use Rattle.handout.specs.Requests.{askedCount}
-use Rattle.handout.specs.Answers.{shown, allShown, answerBytes, refusesAt, firstRefusing}
+use Rattle.handout.specs.Answers.{shown, allShown, answerBytes, refusesAt}
 use Rattle.handout.proofs.Requesting.{right-has}
-use Rattle.handout.proofs.Answering.{faces, none-shown, one-shown-more, entry-length, entries-length}
+use Rattle.handout.proofs.Answering.{faces, none-refuses, none-shown, one-shown-more, entry-length, entries-length}
 use Rattle.handout.proofs.answers.give.Statement.{statement}
 use Rattle.handout.proofs.answers.give.Tie as tie
 
@@ -41,10 +41,8 @@ store-of c = storeOf (now (start-of c .args .store))
 abbrev request-of : tie.After-count Inv-loop μ-loop → List ℕ
 request-of c = now (start-of c .args .request)
 
-none-refuses : (c : tie.After-count Inv-loop μ-loop) →
-    None (askedCount (request-of c)) (refusesAt (rows-of c) (start-of c .args .reader) (store-of c) (request-of c))
-unfolding firstRefusing
-none-refuses c = none-first _ _ (start-of c .pre .none-refuses)
+passes : (c : tie.After-count Inv-loop μ-loop) → None (askedCount (request-of c)) (refusesAt (rows-of c) (start-of c .args .reader) (store-of c) (request-of c))
+passes c = none-refuses _ _ _ _ (start-of c .pre .none-refuses)
 
 inside : (c : tie.In-loop Inv-loop μ-loop) → c .before .loop .i < askedCount (request-of (c .before .before))
 inside c = omega (arith, c .loop-test .taken, c .before .before .count .ensures .0)
@@ -82,7 +80,7 @@ show-requires c κs =
     let long = headed-length asked (now (start .args .answer)) in (
       omega (arith, inside in-loop, start .pre .room, at-loop .loop .inv .2),
       faces (start .pre .asks-as) _ _ (inside in-loop) (c .asked-at .ensures),
-      rw (c .asked-at .ensures) (none-refuses counted _ (inside in-loop)),
+      rw (c .asked-at .ensures) (passes counted _ (inside in-loop)),
     )
 
 loop-again : tie.Need-loop-again Inv-loop μ-loop
@@ -101,7 +99,7 @@ loop-again c =
     let inv = at-loop .loop .inv in
     let asked = counted .count .result % 256 in
     let less = inside in-loop in
-    let none = none-refuses counted in (
+    let none = passes counted in (
       omega (arith, in-loop .loop-test .taken),
       call .show .ensures
           ∙ ap₂ (λ (l : List ℕ) (d : Cell Mark). sets l (entryAt i) (shown 𝓛 (a .reader) d)) (inv .1) (word .asked-at .ensures)
