@@ -6,6 +6,7 @@ mod archive;
 mod arguments;
 mod self_check;
 
+use archive::Archive;
 use arguments::{Arguments, Many, Only, USAGE};
 use beltuqash_tests::compare::calls::compare;
 use beltuqash_tests::compare::{hand_out, load, run, Times};
@@ -15,6 +16,7 @@ use std::env;
 use std::fmt::Display;
 use std::ops::Range;
 use std::process::ExitCode;
+use std::thread;
 use std::time::Instant;
 
 /// How often each number must come back, each kind of division, of partial fields
@@ -51,7 +53,8 @@ fn one(index: u64) -> Range<u64> {
     index..index.saturating_add(1)
 }
 
-/// Goes through all of it, whatever fails.
+/// Goes through all of it, whatever fails. The search takes as long as the rest, and
+/// goes on beside it.
 fn all_pass(seed: u64, many: Many) -> bool {
     let Many {
         sheets,
@@ -59,11 +62,14 @@ fn all_pass(seed: u64, many: Many) -> bool {
         hand_outs,
         pairs,
     } = many;
-    let load = sheets == 0 || load_passes(seed, sheets);
-    let run = calls == 0 || run_passes(seed, calls);
-    let hand_out = hand_outs == 0 || hand_out_passes(seed, hand_outs);
-    let search = pairs == 0 || search_passes(seed, pairs);
-    load && run && hand_out && search
+    thread::scope(|scope| {
+        let search = scope.spawn(|| pairs == 0 || search_passes(seed, pairs));
+        let load = sheets == 0 || load_passes(seed, sheets);
+        let run = calls == 0 || run_passes(seed, calls);
+        let hand_out = hand_outs == 0 || hand_out_passes(seed, hand_outs);
+        let search = search.join().expect("the search does not panic");
+        load && run && hand_out && search
+    })
 }
 
 fn load_passes(seed: u64, sheets: u64) -> bool {
@@ -106,9 +112,12 @@ fn often_enough(times: &[u64]) -> bool {
     passed
 }
 
-/// Prints what was found, or hands on what came up.
-fn unless_found<T>(result: Result<T, impl Display>) -> Option<T> {
-    result.map_err(|found| print!("{found}")).ok()
+/// Hands on what came up with the archive, or prints what was found. A shop that does
+/// not end well has not passed.
+fn with_archive<T, F: Display>(look: impl FnOnce(&Archive) -> Result<T, F>) -> Option<T> {
+    let archive = Archive::open();
+    let result = look(&archive).map_err(|found| print!("{found}"));
+    archive.close().then_some(result.ok()).flatten()
 }
 
 /// Prints that all these inputs have passed, and how long it took.
@@ -120,7 +129,8 @@ fn all_passed(inputs: u64, without: &str, start: Instant) {
 /// Compares the loads; prints the difference, or how often each number came.
 fn compare_load(seed: u64, indexes: Range<u64>) -> Option<Times> {
     let start = Instant::now();
-    let histogram = unless_found(load::compare(seed, indexes, &archive::load))?;
+    let histogram =
+        with_archive(|archive| load::compare(seed, indexes, &|sheet| archive.load(sheet)))?;
     for number in load::NUMBERS {
         println!("load, number {number:>2}: {:>8}", histogram[number]);
     }
@@ -132,7 +142,7 @@ fn compare_load(seed: u64, indexes: Range<u64>) -> Option<Times> {
 /// The same for the runs.
 fn compare_run(seed: u64, indexes: Range<u64>) -> Option<run::Histogram> {
     let start = Instant::now();
-    let histogram = unless_found(compare(seed, indexes, &archive::run))?;
+    let histogram = with_archive(|archive| compare(seed, indexes, &|call| archive.run(call)))?;
     for number in run::NUMBERS {
         let times = histogram.all[number];
         let strict = histogram.strict[number];
@@ -152,7 +162,7 @@ fn compare_run(seed: u64, indexes: Range<u64>) -> Option<run::Histogram> {
 /// The same for the hand-outs.
 fn compare_hand_out(seed: u64, indexes: Range<u64>) -> Option<hand_out::Histogram> {
     let start = Instant::now();
-    let histogram = unless_found(compare(seed, indexes, &archive::hand_out))?;
+    let histogram = with_archive(|archive| compare(seed, indexes, &|call| archive.hand_out(call)))?;
     for number in hand_out::NUMBERS {
         println!("hand-out, number {number:>2}: {:>8}", histogram.all[number]);
     }
@@ -167,11 +177,13 @@ fn compare_hand_out(seed: u64, indexes: Range<u64>) -> Option<hand_out::Histogra
 /// Searches the archive; prints the breach, or how many pairs were of each kind.
 fn search_archive(seed: u64, indexes: Range<u64>) -> Option<Counts> {
     let start = Instant::now();
-    let shop = Shop {
-        run: &archive::run,
-        hand_out: &archive::hand_out,
-    };
-    let counts = unless_found(search(seed, indexes, &shop))?;
+    let counts = with_archive(|archive| {
+        let shop = Shop {
+            run: &|call| archive.run(call),
+            hand_out: &|call| archive.hand_out(call),
+        };
+        search(seed, indexes, &shop)
+    })?;
     for (name, times) in counts.each() {
         println!("pairs, {name}: {times:>8}");
     }
