@@ -1,7 +1,7 @@
 # make: the C archive, with its proofs, and the examples, below target/.  make install PREFIX=/where: header, archive and pkg-config file.
 # make sample: judges the sample sheets, runs the flag sheet and opens the order desk.  make test: all tests and proofs.
 # make archive: the C archive alone.  make runner: document 01's runner program, with its proofs, as target/runner.
-# make bench: time and stack beside the same monitor in C.
+# make bench: instructions, time and stack beside the same monitor in C.
 VERSION = 0.1.0
 PREFIX = /usr/local
 ARCHIVE = target/staticlib/libbeltuqash.a

@@ -7,5 +7,6 @@
 
 typedef uint64_t (*load_call)(const uint8_t *, size_t);
 typedef uint64_t (*run_call)(const uint8_t *, size_t, const uint8_t *, size_t, uint32_t, uint32_t, uint8_t *, size_t);
+typedef uint64_t (*hand_out_call)(const uint8_t *, size_t, const uint8_t *, size_t, uint32_t, const uint8_t *, size_t, uint8_t *, size_t);
 
 #endif

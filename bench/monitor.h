@@ -47,6 +47,7 @@ enum {
     LEVELS = 16,
     LEVEL_SIZE = 2,
     FIELDS = 64,
+    ASKED = 64,
     FIELD_SIZE = 8,
     CONSTANTS = 256,
     CONSTANT_SIZE = 4,

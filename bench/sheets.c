@@ -162,6 +162,14 @@ void store_of(const struct draft *draft, struct bytes *store)
     }
 }
 
+void request_of(const struct draft *draft, struct bytes *request)
+{
+    request->length = 0;
+    put_two(grow(request, COUNT_SIZE), ASKED);
+    for (unsigned i = 0; i < ASKED; i++)
+        put_two(grow(request, COUNT_SIZE), i % draft->fields);
+}
+
 /* The largest sheet. */
 
 /* One of four commands of four nodes each, which have all kinds but the sequence among them. */

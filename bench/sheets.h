@@ -50,6 +50,9 @@ unsigned all_of(struct draft *draft, const unsigned *commands, unsigned count);
 void sheet_of(const struct draft *draft, struct bytes *sheet);
 void store_of(const struct draft *draft, struct bytes *store);
 
+/* A request for as many fields as can be asked, the draft's fields again and again. */
+void request_of(const struct draft *draft, struct bytes *request);
+
 /* The largest sheet: 16 levels, 64 fields, 256 constants, 1,024 nodes of all kinds; 9,768 bytes. */
 void draft_largest(struct draft *draft);
 

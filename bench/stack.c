@@ -16,8 +16,8 @@
 
 enum { STACK_LIMIT = 8192, STACK_SIZE = 65536, GUARD_SIZE = 4096 };
 
-/* Enough for the way down to the deepest command and some rounds there. */
-enum { FUEL = 200 };
+/* Enough for the way down to the deepest command and some rounds there. The reader is the cube's highest level. */
+enum { FUEL = 200, READER = 15 };
 
 static void fail(const char *what)
 {
@@ -25,12 +25,26 @@ static void fail(const char *what)
     exit(EXIT_FAILURE);
 }
 
-/* A call on a stack of its own: run, or load if run is null. */
+/* The calls of the archive, or of the monitor by hand, which has no hand-out. */
 
-struct call {
+enum which { LOAD, RUN, HAND_OUT, CALLS };
+
+static const char *const call_names[CALLS] = {"load", "run", "hand-out"};
+
+struct monitor {
     load_call load;
     run_call run;
-    const struct bytes *sheet, *store;
+    hand_out_call hand_out;
+};
+
+static const struct monitor archive = {beltuqash_load, beltuqash_run, beltuqash_hand_out}, by_hand = {c_load, c_run, NULL};
+
+/* A call on a stack of its own. */
+
+struct call {
+    enum which which;
+    const struct monitor *monitor;
+    const struct bytes *sheet, *store, *request;
     uint32_t mode;
     uint64_t word;
     const uint8_t *base;
@@ -54,12 +68,19 @@ static void make_call(void)
 {
     static uint8_t out[STORE_MOST];
     struct call *call = current;
-    const struct bytes *sheet = call->sheet, *store = call->store;
+    const struct monitor *monitor = call->monitor;
+    const struct bytes *sheet = call->sheet, *store = call->store, *request = call->request;
     call->base = __builtin_frame_address(0);
-    if (call->run == NULL)
-        call->word = call->load(sheet->at, sheet->length);
-    else
-        call->word = call->run(sheet->at, sheet->length, store->at, store->length, call->mode, FUEL, out, sizeof out);
+    switch (call->which) {
+    case LOAD:
+        call->word = monitor->load(sheet->at, sheet->length);
+        break;
+    case RUN:
+        call->word = monitor->run(sheet->at, sheet->length, store->at, store->length, call->mode, FUEL, out, sizeof out);
+        break;
+    default:
+        call->word = monitor->hand_out(sheet->at, sheet->length, store->at, store->length, READER, request->at, request->length, out, sizeof out);
+    }
 }
 
 /* Bytes of stack that a call changes below its base, seen against one paint. */
@@ -86,42 +107,45 @@ static unsigned stack_of(struct call *call)
     return one < other ? other : one;
 }
 
-/* Both calls on a draft. */
-
-struct monitor {
-    load_call load;
-    run_call run;
-};
-
-static const struct monitor archive = {beltuqash_load, beltuqash_run}, by_hand = {c_load, c_run};
+/* All calls on a draft. */
 
 struct stacks {
-    unsigned load, run;
+    unsigned of[CALLS];
 };
 
 static void keep_most(struct stacks *most, struct stacks stacks)
 {
-    if (most->load < stacks.load)
-        most->load = stacks.load;
-    if (most->run < stacks.run)
-        most->run = stacks.run;
+    for (int i = 0; i < CALLS; i++)
+        if (most->of[i] < stacks.of[i])
+            most->of[i] = stacks.of[i];
 }
 
-/* Load's stack and run's, the greater of both modes. Each ends with one of the numbers in the set. */
+/* Puts in the call's stack, the greater of what is there and of this mode. The call ends with one of the numbers in the set. */
+static void measure_call(struct stacks *stacks, struct call call, enum which which, uint32_t mode, unsigned numbers)
+{
+    call.which = which;
+    call.mode = mode;
+    struct stacks measured = {{0}};
+    measured.of[which] = stack_of(&call);
+    keep_most(stacks, measured);
+    if ((numbers >> beltuqash_number(call.word) & 1) == 0)
+        fail("a call ends with a number that it should not");
+}
+
+/* The stacks of load, of run in both modes, and of a hand-out of as many fields as can be asked, if the monitor has one. */
 static struct stacks measure(const struct monitor *monitor, const struct draft *draft, unsigned numbers)
 {
-    static struct bytes sheet, store;
+    static struct bytes sheet, store, request;
     sheet_of(draft, &sheet);
     store_of(draft, &store);
-    struct stacks most = {0, 0};
-    for (uint32_t mode = STRICT; mode <= PERMISSIVE; mode++) {
-        struct call load = {.load = monitor->load, .sheet = &sheet};
-        struct call run = {.run = monitor->run, .sheet = &sheet, .store = &store, .mode = mode};
-        struct stacks stacks = {stack_of(&load), stack_of(&run)};
-        keep_most(&most, stacks);
-        if ((numbers >> beltuqash_number(load.word) & 1) == 0 || (numbers >> beltuqash_number(run.word) & 1) == 0)
-            fail("a call ends with a number that it should not");
-    }
+    request_of(draft, &request);
+    const struct call call = {.monitor = monitor, .sheet = &sheet, .store = &store, .request = &request};
+    struct stacks most = {{0}};
+    measure_call(&most, call, LOAD, 0, numbers);
+    measure_call(&most, call, RUN, STRICT, numbers);
+    measure_call(&most, call, RUN, PERMISSIVE, numbers);
+    if (monitor->hand_out != NULL)
+        measure_call(&most, call, HAND_OUT, 0, numbers);
     return most;
 }
 
@@ -267,7 +291,7 @@ static struct stacks measure_commands(const struct monitor *monitor, const struc
 static struct stacks measure_mixture(const struct monitor *monitor, const struct shape *above,
                                      const struct shape *below, unsigned depth)
 {
-    struct stacks most = {0, 0};
+    struct stacks most = {{0}};
     for (unsigned which = 0; which < DEEPEST; which++) {
         struct draft d;
         begin_nest(&d);
@@ -282,7 +306,7 @@ static struct stacks measure_mixture(const struct monitor *monitor, const struct
 static struct stacks measure_mixtures(const struct monitor *monitor, const struct shape *above,
                                       const struct shape *below)
 {
-    struct stacks most = {0, 0};
+    struct stacks most = {{0}};
     for (unsigned depth = 1; depth < DEPTH; depth++)
         keep_most(&most, measure_mixture(monitor, above, below, depth));
     return most;
@@ -306,15 +330,27 @@ static struct stacks measure_largest(const struct monitor *monitor)
 
 /* The tables. */
 
+/* A name and a number for each call that was measured. */
+static void print_stacks(const char *name, struct stacks stacks)
+{
+    printf("%-22s", name);
+    for (int i = 0; i < CALLS && stacks.of[i] != 0; i++)
+        printf(" %8u", stacks.of[i]);
+}
+
 static void print_line(const char *name, struct stacks stacks, struct stacks *most)
 {
     keep_most(most, stacks);
-    printf("%-22s %8u %8u\n", name, stacks.load, stacks.run);
+    print_stacks(name, stacks);
+    printf("\n");
 }
 
 static void print_shapes(struct stacks *most)
 {
-    printf("%-22s %8s %8s\n", "stack, bytes", "load", "run");
+    printf("%-22s", "stack, bytes");
+    for (int i = 0; i < CALLS; i++)
+        printf(" %8s", call_names[i]);
+    printf("\n");
     for (int i = 0; i < COMMANDS; i++)
         print_line(commands[i].name, measure_commands(&archive, &commands[i]), most);
     for (int i = 0; i < EXPRESSIONS; i++)
@@ -333,14 +369,14 @@ static void print_mixtures(struct stacks *most)
         for (int j = 0; j < EXPRESSIONS; j++) {
             struct stacks stacks = measure_mixtures(&archive, &commands[i], &expressions[j]);
             keep_most(most, stacks);
-            printf(" %20u", stacks.run);
+            printf(" %20u", stacks.of[RUN]);
         }
     }
 }
 
 static struct stacks most_by_hand(void)
 {
-    struct stacks most = {0, 0};
+    struct stacks most = {{0}};
     for (int i = 0; i < COMMANDS; i++)
         for (int j = 0; j < EXPRESSIONS; j++)
             keep_most(&most, measure_mixtures(&by_hand, &commands[i], &expressions[j]));
@@ -349,12 +385,17 @@ static struct stacks most_by_hand(void)
 
 int main(void)
 {
-    struct stacks most = {0, 0};
+    struct stacks most = {{0}};
     make_stack();
     print_shapes(&most);
     print_mixtures(&most);
-    struct stacks by_c = most_by_hand();
-    printf("\n\n%-22s %8u %8u of %u\n", "archive at most", most.load, most.run, STACK_LIMIT);
-    printf("%-22s %8u %8u\n", "C at most", by_c.load, by_c.run);
-    return most.load <= STACK_LIMIT && most.run <= STACK_LIMIT ? EXIT_SUCCESS : EXIT_FAILURE;
+    printf("\n\n");
+    print_stacks("archive at most", most);
+    printf(" of %u\n", STACK_LIMIT);
+    print_stacks("C at most", most_by_hand());
+    printf("\n");
+    for (int i = 0; i < CALLS; i++)
+        if (most.of[i] > STACK_LIMIT)
+            return EXIT_FAILURE;
+    return EXIT_SUCCESS;
 }

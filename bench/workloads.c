@@ -1,19 +1,10 @@
-/* Times the archive's calls against the same monitor by hand in C: both in one program, on the same sheets, in turn.
- *
- * Each run is compared first: its answer word, its final store and the units that it must spend. */
-#define _POSIX_C_SOURCE 200809L
+/* The sheets that are measured, their runs and the load. */
+#include "workloads.h"
 #include "beltuqash.h"
-#include "calls.h"
-#include "monitor.h"
-#include "sheets.h"
 
 #include <stdio.h>
 #include <stdlib.h>
 #include <string.h>
-#include <time.h>
-
-/* A time is the best of the repetitions, and each repetition times so many calls: tens of milliseconds. */
-enum { REPETITIONS = 21, RUNS = 3, LOADS = 2000 };
 
 /* The sheets. Each is a loop, while i < n do body, with i in field 0 and n in field 1. */
 
@@ -100,33 +91,27 @@ static void draft_meets(struct draft *d, int32_t rounds)
     end_loop(d, all_of(d, commands, 3));
 }
 
-struct workload {
-    const char *name;
-    void (*draft)(struct draft *, int32_t rounds);
-    uint32_t units_a_round;
-    enum mode mode;
-};
-
-enum { WORKLOADS = 4 };
-
-static const struct workload workloads[WORKLOADS] = {
+const struct workload workloads[WORKLOADS] = {
     {"counting loop, a unit", draft_counting, 2, STRICT},
     {"arithmetic and branches, a unit", draft_branching, 7, STRICT},
     {"joins in 16 levels, a unit", draft_joins, 7, STRICT},
     {"meets in 16 levels, a unit", draft_meets, 5, PERMISSIVE},
 };
 
-/* What is called: runs that finish with nearly all of their fuel spent, and the load of the largest sheet. */
+const char load_name[] = "load, 9,768 bytes";
 
-struct job {
-    struct bytes sheet, store;
-    uint32_t mode, fuel, units;
-};
+/* The runs and the load. */
 
-static uint64_t run(run_call call, const struct job *job, uint8_t *out)
+static uint64_t run_to(run_call call, const struct job *job, uint8_t *out)
 {
     const struct bytes *sheet = &job->sheet, *store = &job->store;
     return call(sheet->at, sheet->length, store->at, store->length, job->mode, job->fuel, out, STORE_MOST);
+}
+
+uint64_t run(run_call call, const struct job *job)
+{
+    uint8_t out[STORE_MOST];
+    return run_to(call, job, out);
 }
 
 static void fail(const char *name, const char *what)
@@ -138,14 +123,14 @@ static void fail(const char *name, const char *what)
 static void compare_runs(const char *name, const struct job *job)
 {
     uint8_t by_archive[STORE_MOST] = {0}, by_c[STORE_MOST] = {0};
-    uint64_t word = run(beltuqash_run, job, by_archive);
-    if (word != run(c_run, job, by_c) || memcmp(by_archive, by_c, STORE_MOST) != 0)
+    uint64_t word = run_to(beltuqash_run, job, by_archive);
+    if (word != run_to(c_run, job, by_c) || memcmp(by_archive, by_c, STORE_MOST) != 0)
         fail(name, "archive and C differ");
     if (beltuqash_number(word) != DONE || beltuqash_units(word) != job->units)
         fail(name, "the run does not finish with the units that it should spend");
 }
 
-static void prepare_run(struct job *job, const struct workload *workload, uint32_t fuel)
+void prepare_run(struct job *job, const struct workload *workload, uint32_t fuel)
 {
     struct draft draft;
     uint32_t rounds = (fuel - 1) / workload->units_a_round;
@@ -158,7 +143,7 @@ static void prepare_run(struct job *job, const struct workload *workload, uint32
     compare_runs(workload->name, job);
 }
 
-static void prepare_load(struct bytes *sheet)
+void prepare_load(struct bytes *sheet)
 {
     struct draft draft;
     draft_largest(&draft);
@@ -167,97 +152,4 @@ static void prepare_load(struct bytes *sheet)
         fail("load", "the largest sheet has another length");
     if (beltuqash_load(sheet->at, sheet->length) != DONE || c_load(sheet->at, sheet->length) != DONE)
         fail("load", "the largest sheet is not taken");
-}
-
-/* Times, in seconds a call. */
-
-struct times {
-    double archive, c;
-};
-
-static double now(void)
-{
-    struct timespec spent;
-    clock_gettime(CLOCK_PROCESS_CPUTIME_ID, &spent);
-    return (double)spent.tv_sec + 1e-9 * (double)spent.tv_nsec;
-}
-
-static double time_run(run_call call, const struct job *job)
-{
-    uint8_t out[STORE_MOST];
-    double start = now();
-    for (int i = 0; i < RUNS; i++)
-        run(call, job, out);
-    return (now() - start) / RUNS;
-}
-
-static double time_load(load_call call, const struct bytes *sheet)
-{
-    double start = now();
-    for (int i = 0; i < LOADS; i++)
-        call(sheet->at, sheet->length);
-    return (now() - start) / LOADS;
-}
-
-/* Keeps the best; the first repetition has nothing to beat. */
-static void keep(double *best, double seconds)
-{
-    if (*best == 0 || seconds < *best)
-        *best = seconds;
-}
-
-static void repeat_run(const struct job *job, struct times *best)
-{
-    keep(&best->archive, time_run(beltuqash_run, job));
-    keep(&best->c, time_run(c_run, job));
-}
-
-static void repeat_load(const struct bytes *sheet, struct times *best)
-{
-    keep(&best->archive, time_load(beltuqash_load, sheet));
-    keep(&best->c, time_load(c_load, sheet));
-}
-
-/* A sheet at fuel f and at 2f, 500,000 and 1,000,000 units. */
-struct measured {
-    struct job f, f2;
-    struct times at_f, at_f2;
-};
-
-/* One line a figure, for `run` to put together: its name, the archive's time and C's in nanoseconds, and how the archive's
- * time grows with twice the units. */
-static void print_figure(const char *name, double archive, double c, double growth)
-{
-    printf("%s\t%f\t%f\t%f\n", name, archive * 1e9, c * 1e9, growth);
-}
-
-static void print_runs(const struct measured *measured)
-{
-    for (int i = 0; i < WORKLOADS; i++) {
-        struct times f = measured[i].at_f, f2 = measured[i].at_f2;
-        double units = measured[i].f2.units;
-        print_figure(workloads[i].name, f2.archive / units, f2.c / units, f2.archive / f.archive);
-    }
-}
-
-int main(void)
-{
-    static struct measured measured[WORKLOADS];
-    static struct bytes largest;
-    struct times load = {0, 0};
-    prepare_load(&largest);
-    for (int i = 0; i < WORKLOADS; i++) {
-        prepare_run(&measured[i].f, &workloads[i], FUEL_LIMIT / 2);
-        prepare_run(&measured[i].f2, &workloads[i], FUEL_LIMIT);
-    }
-    for (int repetition = 0; repetition < REPETITIONS; repetition++) {
-        for (int i = 0; i < WORKLOADS; i++) {
-            repeat_run(&measured[i].f, &measured[i].at_f);
-            repeat_run(&measured[i].f2, &measured[i].at_f2);
-        }
-        repeat_load(&largest, &load);
-    }
-    print_runs(measured);
-    print_figure("load, 9,768 bytes", load.archive, load.c, 1);
-    return EXIT_SUCCESS;
 }

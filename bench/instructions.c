@@ -1,0 +1,100 @@
+/* Counts the instructions of the archive's calls and of the same monitor by hand in C.
+ *
+ * The processor stops after each instruction while its trap flag is set, and a signal handler counts the stops. So a count is exact and comes again,
+ * emulated or not; only the C library's memcpy and memset may take another way on another processor. What a unit takes is what a longer run takes more,
+ * divided by the units that it spends more. */
+#define _POSIX_C_SOURCE 200809L
+#include "beltuqash.h"
+#include "workloads.h"
+
+#include <signal.h>
+#include <stdio.h>
+#include <stdlib.h>
+
+/* The fuel of the two runs. */
+enum { SHORT_RUN = 1000, LONG_RUN = 3000 };
+
+static volatile uint64_t stops;
+
+static void count_stop(int signal)
+{
+    (void)signal;
+    stops++;
+}
+
+/* Sets or clears the trap flag, bit 8 of the flags. What lies below the stack pointer may be in use, and is left alone. */
+static inline void set_trap_flag(void)
+{
+    __asm__ volatile("sub $128, %%rsp; pushfq; orq $0x100, (%%rsp); popfq; add $128, %%rsp" ::: "cc", "memory");
+}
+
+static inline void clear_trap_flag(void)
+{
+    __asm__ volatile("sub $128, %%rsp; pushfq; andq $~0x100, (%%rsp); popfq; add $128, %%rsp" ::: "cc", "memory");
+}
+
+static uint64_t count_run(run_call call, const struct job *job)
+{
+    stops = 0;
+    set_trap_flag();
+    run(call, job);
+    clear_trap_flag();
+    return stops;
+}
+
+static uint64_t count_load(load_call call, const struct bytes *sheet)
+{
+    stops = 0;
+    set_trap_flag();
+    call(sheet->at, sheet->length);
+    clear_trap_flag();
+    return stops;
+}
+
+/* Takes nothing but what counting itself takes. */
+static uint64_t no_load(const uint8_t *sheet, size_t sheet_len)
+{
+    (void)sheet;
+    (void)sheet_len;
+    return 0;
+}
+
+static double instructions_a_unit(run_call call, const struct job *one, const struct job *longer)
+{
+    return (double)(count_run(call, longer) - count_run(call, one)) / (longer->units - one->units);
+}
+
+static void print_figure(const char *name, double archive, double c)
+{
+    printf("%-34s %10.1f %10.1f %6.2f\n", name, archive, c, archive / c);
+}
+
+static void print_run(const struct workload *workload)
+{
+    static struct job one, longer;
+    prepare_run(&one, workload, SHORT_RUN);
+    prepare_run(&longer, workload, LONG_RUN);
+    print_figure(workload->name, instructions_a_unit(beltuqash_run, &one, &longer), instructions_a_unit(c_run, &one, &longer));
+}
+
+static void print_load(void)
+{
+    static struct bytes largest;
+    prepare_load(&largest);
+    uint64_t nothing = count_load(no_load, &largest);
+    print_figure(load_name, (double)(count_load(beltuqash_load, &largest) - nothing), (double)(count_load(c_load, &largest) - nothing));
+}
+
+int main(void)
+{
+    struct sigaction action = {.sa_handler = count_stop};
+    if (sigaction(SIGTRAP, &action, NULL) != 0) {
+        perror("instructions cannot be counted");
+        return EXIT_FAILURE;
+    }
+    printf("%-34s %10s %10s %6s\n", "instructions", "archive", "C", "ratio");
+    for (int i = 0; i < WORKLOADS; i++)
+        print_run(&workloads[i]);
+    print_load();
+    return EXIT_SUCCESS;
+}

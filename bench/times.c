@@ -1,0 +1,103 @@
+/* Times the archive's calls against the same monitor by hand in C: both in one program, on the same sheets, in turn. */
+#define _POSIX_C_SOURCE 200809L
+#include "beltuqash.h"
+#include "workloads.h"
+
+#include <stdio.h>
+#include <stdlib.h>
+#include <time.h>
+
+/* A time is the best of the repetitions, and each repetition times so many calls: tens of milliseconds. */
+enum { REPETITIONS = 21, RUNS = 3, LOADS = 2000 };
+
+/* Times, in seconds a call. */
+
+struct times {
+    double archive, c;
+};
+
+static double now(void)
+{
+    struct timespec spent;
+    clock_gettime(CLOCK_PROCESS_CPUTIME_ID, &spent);
+    return (double)spent.tv_sec + 1e-9 * (double)spent.tv_nsec;
+}
+
+static double time_run(run_call call, const struct job *job)
+{
+    double start = now();
+    for (int i = 0; i < RUNS; i++)
+        run(call, job);
+    return (now() - start) / RUNS;
+}
+
+static double time_load(load_call call, const struct bytes *sheet)
+{
+    double start = now();
+    for (int i = 0; i < LOADS; i++)
+        call(sheet->at, sheet->length);
+    return (now() - start) / LOADS;
+}
+
+/* Keeps the best; the first repetition has nothing to beat. */
+static void keep(double *best, double seconds)
+{
+    if (*best == 0 || seconds < *best)
+        *best = seconds;
+}
+
+static void repeat_run(const struct job *job, struct times *best)
+{
+    keep(&best->archive, time_run(beltuqash_run, job));
+    keep(&best->c, time_run(c_run, job));
+}
+
+static void repeat_load(const struct bytes *sheet, struct times *best)
+{
+    keep(&best->archive, time_load(beltuqash_load, sheet));
+    keep(&best->c, time_load(c_load, sheet));
+}
+
+/* A sheet at fuel f and at 2f, 500,000 and 1,000,000 units. */
+struct measured {
+    struct job f, f2;
+    struct times at_f, at_f2;
+};
+
+/* One line a figure, for `run` to put together: its name, the archive's time and C's in nanoseconds, and how the archive's
+ * time grows with twice the units. */
+static void print_figure(const char *name, double archive, double c, double growth)
+{
+    printf("%s\t%f\t%f\t%f\n", name, archive * 1e9, c * 1e9, growth);
+}
+
+static void print_runs(const struct measured *measured)
+{
+    for (int i = 0; i < WORKLOADS; i++) {
+        struct times f = measured[i].at_f, f2 = measured[i].at_f2;
+        double units = measured[i].f2.units;
+        print_figure(workloads[i].name, f2.archive / units, f2.c / units, f2.archive / f.archive);
+    }
+}
+
+int main(void)
+{
+    static struct measured measured[WORKLOADS];
+    static struct bytes largest;
+    struct times load = {0, 0};
+    prepare_load(&largest);
+    for (int i = 0; i < WORKLOADS; i++) {
+        prepare_run(&measured[i].f, &workloads[i], FUEL_LIMIT / 2);
+        prepare_run(&measured[i].f2, &workloads[i], FUEL_LIMIT);
+    }
+    for (int repetition = 0; repetition < REPETITIONS; repetition++) {
+        for (int i = 0; i < WORKLOADS; i++) {
+            repeat_run(&measured[i].f, &measured[i].at_f);
+            repeat_run(&measured[i].f2, &measured[i].at_f2);
+        }
+        repeat_load(&largest, &load);
+    }
+    print_runs(measured);
+    print_figure(load_name, load.archive, load.c, 1);
+    return EXIT_SUCCESS;
+}
