@@ -7,7 +7,7 @@ PREFIX = /usr/local
 ARCHIVE = target/staticlib/libbeltuqash.a
 EXAMPLES = target/judge target/flag target/order_desk target/lesson
 TESTS = target/damaged target/shop
-CFLAGS = -std=c11 -O2 -Wall -Wextra -Werror
+CFLAGS = -std=c11 -O2 -Wall -Wextra -Wconversion -Werror
 
 # The archive is for x86-64: what compiles a program for it, and what the program is started under on this machine.
 CC := $(shell . tests/platform && echo "$$CC")

@@ -4,33 +4,30 @@
 #include <stdio.h>
 #include <stdlib.h>
 
-enum { FIELDS = 3, STORE = 2 + 5 * FIELDS, FUEL = 100 };
+enum { FLAG, Q, COST, FIELDS };
+enum { OPEN = 0, CLOSED = 1, FUEL = 100 }; /* the sheet's two levels, and the units that a run may spend */
 
 static const char *const names[FIELDS] = {"flag", "q", "cost"};
 static const char *const modes[] = {"strict", "permissive"};
 
-/* The value of a field, from its four bytes. */
-static int32_t value(const uint8_t *bytes)
-{
-    uint32_t bits = bytes[0] | (uint32_t)bytes[1] << 8 | (uint32_t)bytes[2] << 16 | (uint32_t)bytes[3] << 24;
-    return (int32_t)bits;
-}
-
 static void print_store(const uint8_t *store)
 {
-    for (int i = 0; i < FIELDS; i++) {
-        const uint8_t *entry = store + 2 + 5 * i;
-        printf("  %s: %d, %s at level %d\n", names[i], value(entry + 1), entry[0] < 16 ? "whole" : "partial", entry[0] % 16);
+    for (unsigned i = 0; i < FIELDS; i++) {
+        unsigned mark = beltuqash_mark(store, i);
+        printf("  %s: %d, %s at level %u\n", names[i], beltuqash_value(store, i), beltuqash_is_partial(mark) ? "partial" : "whole",
+               beltuqash_level(mark));
     }
 }
 
-static void run(const uint8_t *sheet, size_t length, uint8_t low, uint8_t high, enum beltuqash_mode mode)
+static void run(const uint8_t *sheet, size_t length, int32_t cost, enum beltuqash_mode mode)
 {
-    /* flag and q are open, level 0; cost is closed, level 1 */
-    const uint8_t store[STORE] = {FIELDS, 0, 0, 0, 0, 0, 0, 0, 0, 0, 0, 0, 1, low, high, 0, 0};
-    uint8_t out[STORE] = {0};
-    uint64_t word = beltuqash_run(sheet, length, store, sizeof store, mode, FUEL, out, sizeof out);
-    printf("cost %d, %s: ", low + 256 * high, modes[mode]);
+    uint8_t store[BELTUQASH_LONGEST_STORE], out[BELTUQASH_LONGEST_STORE];
+    beltuqash_write_count(store, FIELDS);
+    beltuqash_write_field(store, FLAG, OPEN, 0);
+    beltuqash_write_field(store, Q, OPEN, 0);
+    beltuqash_write_field(store, COST, CLOSED, cost);
+    uint64_t word = beltuqash_run(sheet, length, store, beltuqash_store_length(FIELDS), mode, FUEL, out, sizeof out);
+    printf("cost %d, %s: ", cost, modes[mode]);
     if (beltuqash_number(word) == BELTUQASH_DONE) {
         printf("done after %u units\n", (unsigned)beltuqash_units(word));
         print_store(out);
@@ -41,7 +38,7 @@ static void run(const uint8_t *sheet, size_t length, uint8_t low, uint8_t high, 
 
 int main(int argc, char **argv)
 {
-    static uint8_t sheet[16384];
+    static uint8_t sheet[BELTUQASH_LONGEST_SHEET + 1]; /* a byte more shows a longer file */
     FILE *file = argc == 2 ? fopen(argv[1], "rb") : NULL;
     if (file == NULL) {
         fprintf(stderr, "usage: flag FLAG-SHEET\n");
@@ -50,8 +47,8 @@ int main(int argc, char **argv)
     size_t length = fread(sheet, 1, sizeof sheet, file);
     fclose(file);
     for (int mode = BELTUQASH_STRICT; mode <= BELTUQASH_PERMISSIVE; mode++) {
-        run(sheet, length, 600 % 256, 600 / 256, (enum beltuqash_mode)mode);
-        run(sheet, length, 400 % 256, 400 / 256, (enum beltuqash_mode)mode);
+        run(sheet, length, 600, (enum beltuqash_mode)mode);
+        run(sheet, length, 400, (enum beltuqash_mode)mode);
     }
     return EXIT_SUCCESS;
 }

@@ -4,8 +4,8 @@
 #include <stdio.h>
 #include <stdlib.h>
 
-/* The longest sheet that can pass has 9,768 bytes; a longer file is judged by what fits, and refused either way. */
-static uint8_t sheet[16384];
+/* A file that is longer than any sheet that passes is judged by what fits, and refused either way. */
+static uint8_t sheet[BELTUQASH_LONGEST_SHEET + 1];
 
 static int judge(const char *path)
 {

@@ -7,22 +7,15 @@
 #include <stdlib.h>
 #include <string.h>
 
-enum { NAME = 8, ENTRY = 5, MOST_FIELDS = 64, LEVELS = 16, PARTIAL = 16, FUEL = 1000 };
+enum { FUEL = 1000 };
 
-static uint8_t sheet[9768 + 1]; /* the longest sheet that passes, and a byte that shows a longer file */
+static uint8_t sheet[BELTUQASH_LONGEST_SHEET + 1]; /* a byte more shows a longer file */
 static size_t sheet_len;
-static const char *names; /* the names in the sheet */
-static int fields;
-static uint8_t store[2 + ENTRY * MOST_FIELDS], final_store[2 + ENTRY * MOST_FIELDS];
+static unsigned fields; /* of the sheet */
+static uint8_t store[BELTUQASH_LONGEST_STORE], final_store[BELTUQASH_LONGEST_STORE];
 static size_t store_len;
 
-/* The value of a field, from its four bytes. */
-static int32_t value_at(const uint8_t *bytes)
-{
-    return (int32_t)(bytes[0] | (uint32_t)bytes[1] << 8 | (uint32_t)bytes[2] << 16 | (uint32_t)bytes[3] << 24);
-}
-
-/* Reads the sheet, finds its names and makes a store for its fields; says whether load takes it. */
+/* Reads the sheet and makes a store for its fields, 0 and whole at level 0; says whether load takes it. */
 static int load(const char *path)
 {
     FILE *file = fopen(path, "rb");
@@ -38,11 +31,11 @@ static int load(const char *path)
         fprintf(stderr, "%s: refused with number %u at %u: %s\n", path, number, beltuqash_place(word), beltuqash_reason(number));
         return 0;
     }
-    const uint8_t *count = sheet + 2 + 2 * sheet[0]; /* of the fields, behind the levels; in a sheet that passes, low bytes tell both counts */
-    fields = count[0];
-    names = (const char *)count + 2;
-    store[0] = count[0];
-    store_len = 2 + (size_t)(ENTRY * fields);
+    fields = beltuqash_fields(sheet);
+    store_len = beltuqash_store_length(fields);
+    beltuqash_write_count(store, fields);
+    for (unsigned i = 0; i < fields; i++)
+        beltuqash_write_field(store, i, 0, 0);
     return 1;
 }
 
@@ -56,52 +49,53 @@ static int take_number(const char **text, long long low, long long high, long lo
     return found;
 }
 
-/* The start store's entry of the field that these bytes name, or NULL. */
-static uint8_t *entry_named(const char *text, size_t length)
+/* The field that these bytes name, or the count of fields if there is none. */
+static unsigned field_named(const char *text, size_t length)
 {
-    for (int i = 0; i < fields; i++) {
-        const char *name = names + NAME * i;
-        if (length <= NAME && memcmp(name, text, length) == 0 && (length == NAME || name[length] == 0))
-            return store + 2 + ENTRY * i;
+    for (unsigned i = 0; i < fields; i++) {
+        const char *name = beltuqash_name(sheet, i);
+        if (length <= BELTUQASH_NAME_BYTES && memcmp(name, text, length) == 0 && (length == BELTUQASH_NAME_BYTES || name[length] == 0))
+            return i;
     }
-    return NULL;
+    return fields;
 }
 
 /* Sets a field of the start store as FIELD=VALUE@LEVEL says; says whether it could. */
 static int set_field(const char *text)
 {
     size_t length = strcspn(text, "=");
-    uint8_t *entry = entry_named(text, length);
-    if (entry == NULL) {
+    unsigned field = field_named(text, length);
+    if (field == fields) {
         fprintf(stderr, "%s: no such field\n", text);
         return 0;
     }
     const char *rest = text + length;
     long long value = 0, level = 0;
-    int read = *rest++ == '=' && take_number(&rest, INT32_MIN, INT32_MAX, &value) && *rest++ == '@' && take_number(&rest, 0, LEVELS - 1, &level);
+    int read = *rest++ == '=' && take_number(&rest, INT32_MIN, INT32_MAX, &value) && *rest++ == '@' &&
+               take_number(&rest, 0, BELTUQASH_MOST_LEVELS - 1, &level);
     int partial = read && *rest == '*';
     if (!read || rest[partial] != '\0') {
         fprintf(stderr, "%s: not FIELD=VALUE@LEVEL, with a * after the level for partial\n", text);
         return 0;
     }
-    entry[0] = (uint8_t)(level + partial * PARTIAL);
-    for (int i = 0; i < 4; i++)
-        entry[1 + i] = (uint8_t)((uint32_t)value >> 8 * i);
+    beltuqash_write_field(store, field, partial ? beltuqash_partial((unsigned)level) : (unsigned)level, (int32_t)value);
     return 1;
 }
 
 /* What the reader gets who asks for a field of the final store. */
-static void ask(uint32_t reader, int field)
+static void ask(uint32_t reader, unsigned field)
 {
-    const uint8_t request[] = {1, 0, (uint8_t)field, 0};
-    uint8_t answer[2 + ENTRY];
-    uint64_t word = beltuqash_hand_out(sheet, sheet_len, final_store, store_len, reader, request, sizeof request, answer, sizeof answer);
+    uint8_t request[BELTUQASH_LONGEST_REQUEST], answer[BELTUQASH_LONGEST_ANSWER];
+    beltuqash_write_count(request, 1);
+    beltuqash_write_asked(request, 0, field);
+    uint64_t word =
+        beltuqash_hand_out(sheet, sheet_len, final_store, store_len, reader, request, beltuqash_request_length(1), answer, sizeof answer);
     if (beltuqash_number(word) != BELTUQASH_DONE)
         printf("no answer, number %u\n", beltuqash_number(word));
-    else if (answer[2] == 0)
+    else if (!beltuqash_shown(answer, 0))
         printf("closed\n");
     else
-        printf("%d\n", value_at(answer + 3));
+        printf("%d\n", beltuqash_shown_value(answer, 0));
 }
 
 static void run(enum beltuqash_mode mode, uint32_t reader)
@@ -111,10 +105,10 @@ static void run(enum beltuqash_mode mode, uint32_t reader)
     unsigned number = beltuqash_number(word);
     printf("%s: number %u at %u after %u units: %s\n", modes[mode], number, beltuqash_place(word), (unsigned)beltuqash_units(word),
            beltuqash_reason(number));
-    for (int i = 0; number == BELTUQASH_DONE && i < fields; i++) {
-        const uint8_t *entry = final_store + 2 + ENTRY * i;
-        printf("  %.8s is %d, %s at level %d; the reader gets: ", names + NAME * i, value_at(entry + 1), entry[0] < PARTIAL ? "whole" : "partial",
-               entry[0] % PARTIAL);
+    for (unsigned i = 0; number == BELTUQASH_DONE && i < fields; i++) {
+        unsigned mark = beltuqash_mark(final_store, i);
+        printf("  %.*s is %d, %s at level %u; the reader gets: ", BELTUQASH_NAME_BYTES, beltuqash_name(sheet, i), beltuqash_value(final_store, i),
+               beltuqash_is_partial(mark) ? "partial" : "whole", beltuqash_level(mark));
         ask(reader, i);
     }
 }
@@ -127,7 +121,7 @@ int main(int argc, char **argv)
     }
     const char *rest = argv[2];
     long long reader;
-    if (!take_number(&rest, 0, LEVELS - 1, &reader) || *rest != '\0') {
+    if (!take_number(&rest, 0, BELTUQASH_MOST_LEVELS - 1, &reader) || *rest != '\0') {
         fprintf(stderr, "%s: no level\n", argv[2]);
         return EXIT_FAILURE;
     }

@@ -7,21 +7,9 @@
 
 enum { FLAG, Q, COST, FIELDS };
 enum { OPEN = 0, CLOSED = 1 }; /* the sheet's two levels; the dealer reads at OPEN */
-enum { STORE = 2 + 5 * FIELDS, ANSWER = 2 + 5 * FIELDS, FUEL = 1000 };
+enum { FUEL = 1000 };
 
 static const char *const names[FIELDS] = {"flag", "q", "cost"};
-
-/* A value as four bytes, and back. */
-static void put_value(uint8_t *bytes, int32_t value)
-{
-    for (int i = 0; i < 4; i++)
-        bytes[i] = (uint8_t)((uint32_t)value >> 8 * i);
-}
-
-static int32_t value_at(const uint8_t *bytes)
-{
-    return (int32_t)(bytes[0] | (uint32_t)bytes[1] << 8 | (uint32_t)bytes[2] << 16 | (uint32_t)bytes[3] << 24);
-}
 
 /* For the house: which call was refused, and why. */
 static void tell_house(const char *call, uint64_t word)
@@ -32,35 +20,34 @@ static void tell_house(const char *call, uint64_t word)
 }
 
 /* The start store: flag and q open with value 0, cost closed. */
-static void make_store(uint8_t store[STORE], int32_t cost)
+static void make_store(uint8_t *store, int32_t cost)
 {
-    static const uint8_t levels[FIELDS] = {[FLAG] = OPEN, [Q] = OPEN, [COST] = CLOSED};
-    store[0] = FIELDS;
-    store[1] = 0;
-    for (int field = 0; field < FIELDS; field++) {
-        store[2 + 5 * field] = levels[field];
-        put_value(store + 3 + 5 * field, field == COST ? cost : 0);
-    }
+    beltuqash_write_count(store, FIELDS);
+    beltuqash_write_field(store, FLAG, OPEN, 0);
+    beltuqash_write_field(store, Q, OPEN, 0);
+    beltuqash_write_field(store, COST, CLOSED, cost);
 }
 
 /* The dealer asks for two fields of a store. */
-static void ask(const uint8_t *sheet, size_t length, const uint8_t store[STORE], uint8_t first, uint8_t second)
+static void ask(const uint8_t *sheet, size_t length, const uint8_t *store, unsigned first, unsigned second)
 {
-    const uint8_t request[] = {2, 0, first, 0, second, 0};
-    const uint8_t fields[] = {first, second};
+    const unsigned fields[] = {first, second};
     static const char *const ends[] = {",", "\n"};
-    uint8_t answer[ANSWER];
-    uint64_t word = beltuqash_hand_out(sheet, length, store, STORE, OPEN, request, sizeof request, answer, sizeof answer);
+    uint8_t request[BELTUQASH_LONGEST_REQUEST], answer[BELTUQASH_LONGEST_ANSWER];
+    beltuqash_write_count(request, 2);
+    for (unsigned i = 0; i < 2; i++)
+        beltuqash_write_asked(request, i, fields[i]);
+    uint64_t word = beltuqash_hand_out(sheet, length, store, beltuqash_store_length(FIELDS), OPEN, request, beltuqash_request_length(2), answer,
+                                       beltuqash_answer_length(2));
     printf("  dealer asks for %s and %s:", names[first], names[second]);
     if (beltuqash_number(word) != BELTUQASH_DONE) {
         printf(" no answer\n");
         tell_house("hand-out", word);
         return;
     }
-    for (int i = 0; i < 2; i++) {
-        const uint8_t *entry = answer + 2 + 5 * i;
-        if (entry[0] == 1)
-            printf(" %s is %d%s", names[fields[i]], value_at(entry + 1), ends[i]);
+    for (unsigned i = 0; i < 2; i++) {
+        if (beltuqash_shown(answer, i))
+            printf(" %s is %d%s", names[fields[i]], beltuqash_shown_value(answer, i), ends[i]);
         else
             printf(" %s is closed to him%s", names[fields[i]], ends[i]);
     }
@@ -69,10 +56,11 @@ static void ask(const uint8_t *sheet, size_t length, const uint8_t store[STORE],
 /* One order: run the sheet at this cost, then let the dealer ask. */
 static void serve(const uint8_t *sheet, size_t length, int32_t cost)
 {
-    uint8_t store[STORE], final_store[STORE];
+    uint8_t store[BELTUQASH_LONGEST_STORE], final_store[BELTUQASH_LONGEST_STORE];
+    size_t store_len = beltuqash_store_length(FIELDS);
     make_store(store, cost);
     printf(" cost %d\n", cost);
-    uint64_t word = beltuqash_run(sheet, length, store, sizeof store, BELTUQASH_PERMISSIVE, FUEL, final_store, sizeof final_store);
+    uint64_t word = beltuqash_run(sheet, length, store, store_len, BELTUQASH_PERMISSIVE, FUEL, final_store, store_len);
     if (beltuqash_number(word) != BELTUQASH_DONE) {
         printf("  dealer: no answer\n");
         tell_house("run", word);
@@ -84,7 +72,7 @@ static void serve(const uint8_t *sheet, size_t length, int32_t cost)
 
 int main(int argc, char **argv)
 {
-    static uint8_t sheet[9768 + 1]; /* the longest sheet that passes, and a byte that shows a longer file */
+    static uint8_t sheet[BELTUQASH_LONGEST_SHEET + 1]; /* a byte more shows a longer file */
     FILE *file = argc == 2 ? fopen(argv[1], "rb") : NULL;
     if (file == NULL) {
         fprintf(stderr, "usage: order_desk FLAG-SHEET\n");

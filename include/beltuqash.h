@@ -17,21 +17,22 @@
 extern "C" {
 #endif
 
-/* Judges a sheet. A sheet that passes has at most 9,768 bytes. Numbers 0 to 4, 6, 7 and 19 to 22; the place is a node's number for 19 to 22;
- * the units are 0. */
+/* Judges a sheet. A sheet that passes has at most BELTUQASH_LONGEST_SHEET bytes. Numbers 0 to 4, 6, 7 and 19 to 22; the place is a node's number for
+ * 19 to 22; the units are 0. */
 uint64_t beltuqash_load(const uint8_t *sheet, size_t sheet_len);
 
-/* Runs a sheet from a store and writes the final store to out: 2 bytes, and 5 per field, so at most 322. The sheet is judged first, as load does.
- * mode is BELTUQASH_STRICT or BELTUQASH_PERMISSIVE, fuel at most 1,000,000; any other number is refused with 10. To run on from a final store,
- * lend it as the store and other memory as out. Unlike C's, a sheet's / rounds down and its % takes the divisor's sign: -7 / 2 is -4, -7 % 2 is 1.
+/* Runs a sheet from a store and writes the final store, which is as long as the store, to out: at most BELTUQASH_LONGEST_STORE bytes. The sheet is judged
+ * first, as load does. mode is BELTUQASH_STRICT or BELTUQASH_PERMISSIVE, fuel at most BELTUQASH_MOST_FUEL; any other number is refused with 10. To run on
+ * from a final store, lend it as the store and other memory as out. Unlike C's, a sheet's / rounds down and its % takes the divisor's sign: -7 / 2 is -4,
+ * -7 % 2 is 1.
  * Numbers 0 to 4, 6 to 16 and 19 to 22; the place is a node's number for 12 to 16 and for 19 to 22; the units are those spent, 0 for a call that
  * is refused before it runs (1 to 11 and 19 to 22). */
 uint64_t beltuqash_run(const uint8_t *sheet, size_t sheet_len, const uint8_t *store, size_t store_len, uint32_t mode, uint32_t fuel,
                        uint8_t *out, size_t out_len);
 
-/* Hands a reader what a request asks of a store and writes the answer: 2 bytes, and 5 per asked field (1 and the value, or 0 and value 0 if it is
- * withheld), so at most 322. reader is a level of the sheet. A field at a level that is not at or below the reader is withheld, whole or partial; a
- * partial field at or below the reader refuses the whole request.
+/* Hands a reader what a request asks of a store and writes the answer: beltuqash_answer_length bytes, so at most BELTUQASH_LONGEST_ANSWER. reader is a
+ * level of the sheet. A field at a level that is not at or below the reader is withheld, whole or partial; a partial field at or below the reader refuses
+ * the whole request.
  * Numbers 0 to 4, 6 to 9, 11, 17, 18 and 19 to 22; the place is a position in the request, from 0, for 18, and a node's number for 19 to 22;
  * the units are 0. */
 uint64_t beltuqash_hand_out(const uint8_t *sheet, size_t sheet_len, const uint8_t *store, size_t store_len, uint32_t reader,
@@ -66,6 +67,103 @@ enum beltuqash_number {
     BELTUQASH_NODE_RANGE = 21,        /* child or index number out of range or not lower; place: the node */
     BELTUQASH_NODE_SORT = 22          /* child of the wrong sort; place: the node */
 };
+
+/* Limits, and sizes in bytes. The functions below know what stands where. */
+enum {
+    BELTUQASH_MOST_LEVELS = 16,
+    BELTUQASH_MOST_FIELDS = 64,
+    BELTUQASH_MOST_CONSTANTS = 256,
+    BELTUQASH_MOST_NODES = 1024,
+    BELTUQASH_MOST_DEPTH = 64,
+    BELTUQASH_MOST_ASKED = 64, /* fields in a request */
+    BELTUQASH_MOST_FUEL = 1000000,
+
+    BELTUQASH_COUNT_BYTES = 2, /* the count that each section, store, request and answer begins with */
+    BELTUQASH_LEVEL_BYTES = 2, /* a level's row in a sheet */
+    BELTUQASH_NAME_BYTES = 8,
+    BELTUQASH_CONSTANT_BYTES = 4,
+    BELTUQASH_NODE_BYTES = 8,
+    BELTUQASH_STORE_ENTRY_BYTES = 5,   /* a field in a store: its mark and value */
+    BELTUQASH_REQUEST_ENTRY_BYTES = 2, /* an asked field in a request: its number */
+    BELTUQASH_ANSWER_ENTRY_BYTES = 5,  /* an asked field in an answer: 1 and its value, or 0 and value 0 if it is withheld */
+
+    BELTUQASH_LONGEST_SHEET = 9768,
+    BELTUQASH_LONGEST_STORE = BELTUQASH_COUNT_BYTES + BELTUQASH_STORE_ENTRY_BYTES * BELTUQASH_MOST_FIELDS,
+    BELTUQASH_LONGEST_REQUEST = BELTUQASH_COUNT_BYTES + BELTUQASH_REQUEST_ENTRY_BYTES * BELTUQASH_MOST_ASKED,
+    BELTUQASH_LONGEST_ANSWER = BELTUQASH_COUNT_BYTES + BELTUQASH_ANSWER_ENTRY_BYTES * BELTUQASH_MOST_ASKED,
+
+    BELTUQASH_PARTIAL = 16 /* what a partial mark has more than its level */
+};
+
+/* Numbers of two bytes without a sign and of four with one, little-endian. */
+static inline unsigned beltuqash_read_two(const uint8_t *at) { return at[0] | (unsigned)at[1] << 8; }
+static inline int32_t beltuqash_read_four(const uint8_t *at)
+{
+    return (int32_t)(beltuqash_read_two(at) | (uint32_t)beltuqash_read_two(at + 2) << 16);
+}
+static inline void beltuqash_write_two(uint8_t *at, unsigned number)
+{
+    at[0] = (uint8_t)number;
+    at[1] = (uint8_t)(number >> 8);
+}
+static inline void beltuqash_write_four(uint8_t *at, int32_t number)
+{
+    beltuqash_write_two(at, (uint32_t)number & 0xffff);
+    beltuqash_write_two(at + 2, (uint32_t)number >> 16);
+}
+
+/* The count that a store, a request or an answer begins with. */
+static inline unsigned beltuqash_count(const uint8_t *bytes) { return beltuqash_read_two(bytes); }
+static inline void beltuqash_write_count(uint8_t *bytes, unsigned count) { beltuqash_write_two(bytes, count); }
+
+/* A sheet that load takes: its levels, its fields, and the name of a field, filled with zero bytes. */
+static inline unsigned beltuqash_levels(const uint8_t *sheet) { return beltuqash_read_two(sheet); }
+static inline const uint8_t *beltuqash_field_section(const uint8_t *sheet)
+{
+    return sheet + BELTUQASH_COUNT_BYTES + BELTUQASH_LEVEL_BYTES * beltuqash_levels(sheet);
+}
+static inline unsigned beltuqash_fields(const uint8_t *sheet) { return beltuqash_read_two(beltuqash_field_section(sheet)); }
+static inline const char *beltuqash_name(const uint8_t *sheet, size_t field)
+{
+    return (const char *)beltuqash_field_section(sheet) + BELTUQASH_COUNT_BYTES + BELTUQASH_NAME_BYTES * field;
+}
+
+/* Marks. A mark that is not partial is whole, and is its level. */
+static inline unsigned beltuqash_level(unsigned mark) { return mark % BELTUQASH_PARTIAL; }
+static inline int beltuqash_is_partial(unsigned mark) { return mark >= BELTUQASH_PARTIAL; }
+static inline unsigned beltuqash_partial(unsigned level) { return level + BELTUQASH_PARTIAL; }
+
+/* A store of so many fields: its length, and the mark and value of each. A field's entry begins where a store of the fields before it would end. */
+static inline size_t beltuqash_store_length(size_t fields) { return BELTUQASH_COUNT_BYTES + BELTUQASH_STORE_ENTRY_BYTES * fields; }
+static inline unsigned beltuqash_mark(const uint8_t *store, size_t field) { return store[beltuqash_store_length(field)]; }
+static inline int32_t beltuqash_value(const uint8_t *store, size_t field)
+{
+    return beltuqash_read_four(store + beltuqash_store_length(field) + 1);
+}
+static inline void beltuqash_write_field(uint8_t *store, size_t field, unsigned mark, int32_t value)
+{
+    store[beltuqash_store_length(field)] = (uint8_t)mark;
+    beltuqash_write_four(store + beltuqash_store_length(field) + 1, value);
+}
+
+/* A request for so many fields: its length, and the field asked at a position, from 0. */
+static inline size_t beltuqash_request_length(size_t asked) { return BELTUQASH_COUNT_BYTES + BELTUQASH_REQUEST_ENTRY_BYTES * asked; }
+static inline unsigned beltuqash_asked(const uint8_t *request, size_t position)
+{
+    return beltuqash_read_two(request + beltuqash_request_length(position));
+}
+static inline void beltuqash_write_asked(uint8_t *request, size_t position, unsigned field)
+{
+    beltuqash_write_two(request + beltuqash_request_length(position), field);
+}
+
+/* An answer for so many asked fields: its length, whether the field at a position is shown (1) or withheld (0), and the value shown (0 if withheld). */
+static inline size_t beltuqash_answer_length(size_t asked) { return BELTUQASH_COUNT_BYTES + BELTUQASH_ANSWER_ENTRY_BYTES * asked; }
+static inline unsigned beltuqash_shown(const uint8_t *answer, size_t position) { return answer[beltuqash_answer_length(position)]; }
+static inline int32_t beltuqash_shown_value(const uint8_t *answer, size_t position)
+{
+    return beltuqash_read_four(answer + beltuqash_answer_length(position) + 1);
+}
 
 /* The answer word, taken apart. */
 static inline unsigned beltuqash_number(uint64_t word) { return (unsigned)(word & 0xff); }

@@ -14,7 +14,7 @@
 #include <sys/mman.h>
 #include <unistd.h>
 
-enum { ROOM = 16384, GUARD = 0xa5, MOST_FUEL = 1000000, MOST_FIELDS = 64, PARTIAL = 16, NUMBERS = 23, BASES = 16 };
+enum { ROOM = 16384, GUARD = 0xa5, NUMBERS = BELTUQASH_NODE_SORT + 1, BASES = 16 };
 
 /* ---- random numbers, always the same ---- */
 
@@ -137,9 +137,9 @@ static unsigned count(enum call call, uint64_t word)
     demand(number < NUMBERS && call_numbers[call][number] == 'y', "a number that this call does not have");
     demand((word >> 24 & 0xff) == 0, "bits of the word that mean nothing are set");
     place[call] = beltuqash_place(word);
-    demand(place[call] < 1024, "a place that no node has");
-    int has_place = 12 <= number && number != BELTUQASH_READER_OR_REQUEST;
-    int has_units = number == 0 || (12 <= number && number <= 16);
+    demand(place[call] < BELTUQASH_MOST_NODES, "a place that no node has");
+    int has_place = BELTUQASH_FUEL_SPENT <= number && number != BELTUQASH_READER_OR_REQUEST;
+    int has_units = number == BELTUQASH_DONE || (BELTUQASH_FUEL_SPENT <= number && number <= BELTUQASH_PARTIAL_TEST);
     demand(has_place || place[call] == 0, "a place where there is none");
     demand(has_units || beltuqash_units(word) == 0, "units where there are none");
     seen[call][number]++;
@@ -170,30 +170,31 @@ static unsigned run(const struct bytes *sheet, const struct bytes *store, uint32
     demand(written <= out_len, "success with a short output");
     take_back_output(out, written);
     if (number == BELTUQASH_DONE) {
-        demand(memcmp(out, store->at, 2) == 0, "the final store has another count");
+        demand(beltuqash_count(out) == beltuqash_count(store->at), "the final store has another count");
         final_store->length = written;
         memcpy(final_store->at, out, written);
     }
     return number;
 }
 
-/* The store's entry of the field at a position in the request. */
-static const uint8_t *entry_asked(const struct bytes *store, const struct bytes *request, size_t position)
+/* The mark in the store of the field asked at a position. */
+static unsigned mark_asked(const struct bytes *store, const struct bytes *request, size_t position)
 {
-    const uint8_t *number = request->at + 2 + 2 * position;
-    size_t at = 2 + 5 * (size_t)(number[0] | number[1] << 8);
-    demand(at + 5 <= store->length, "a field that the store does not have");
-    return store->at + at;
+    unsigned field = beltuqash_asked(request->at, position);
+    demand(beltuqash_store_length(field + 1) <= store->length, "a field that the store does not have");
+    return beltuqash_mark(store->at, field);
 }
 
 /* What holds of an entry of an answer, however the levels lie: it tells a whole field's value or nothing, and its field is not partial at the reader's
  * own level. */
-static void check_entry(const uint8_t *entry, const uint8_t *field, uint32_t reader)
+static void check_entry(const uint8_t *answer, const struct bytes *store, uint32_t reader, const struct bytes *request, size_t position)
 {
-    demand(entry[0] == 1 || (entry[0] == 0 && memcmp(entry, "\0\0\0\0", 5) == 0), "an entry neither told nor withheld");
-    demand(entry[0] == 0 || field[0] < PARTIAL, "a partial field told");
-    demand(entry[0] == 0 || memcmp(entry + 1, field + 1, 4) == 0, "another value told");
-    demand(field[0] != reader + PARTIAL, "a partial field at the reader's own level in an answer");
+    unsigned shown = beltuqash_shown(answer, position), mark = mark_asked(store, request, position);
+    int32_t told = beltuqash_shown_value(answer, position), value = beltuqash_value(store->at, beltuqash_asked(request->at, position));
+    demand(shown == 1 || (shown == 0 && told == 0), "an entry neither told nor withheld");
+    demand(!shown || !beltuqash_is_partial(mark), "a partial field told");
+    demand(!shown || told == value, "another value told");
+    demand(mark != beltuqash_partial(reader), "a partial field at the reader's own level in an answer");
 }
 
 static unsigned hand_out(const struct bytes *sheet, const struct bytes *store, uint32_t reader, const struct bytes *request, size_t answer_len)
@@ -206,16 +207,18 @@ static unsigned hand_out(const struct bytes *sheet, const struct bytes *store, u
     take_back(t);
     take_back(r);
     unsigned number = count(HAND_OUT, word);
-    size_t asked = request->length < 2 ? 0 : (request->length - 2) / 2;
+    int taken = number == BELTUQASH_DONE || number == BELTUQASH_PARTIAL_ASKED;
+    size_t asked = taken ? beltuqash_count(request->at) : 0;
+    demand(!taken || request->length == beltuqash_request_length(asked), "a request of another size is taken");
     if (number == BELTUQASH_PARTIAL_ASKED) {
         demand(place[HAND_OUT] < asked, "a place that the request does not have");
-        demand(entry_asked(store, request, place[HAND_OUT])[0] >= PARTIAL, "18 for a whole field");
+        demand(beltuqash_is_partial(mark_asked(store, request, place[HAND_OUT])), "18 for a whole field");
     }
-    size_t written = number == BELTUQASH_DONE ? 2 + 5 * asked : 0;
+    size_t written = number == BELTUQASH_DONE ? beltuqash_answer_length(asked) : 0;
     demand(written <= answer_len, "success with a short answer");
     take_back_output(answer, written);
     for (size_t i = 0; i < asked && number == BELTUQASH_DONE; i++)
-        check_entry(answer + 2 + 5 * i, entry_asked(store, request, i), reader);
+        check_entry(answer, store, reader, request, i);
     return number;
 }
 
@@ -236,8 +239,8 @@ static void add_base(const struct bytes *sheet, unsigned number)
     struct base *base = &bases[base_count++];
     base->sheet = *sheet;
     base->number = number;
-    base->levels = sheet->at[0];
-    base->fields = sheet->at[2 + 2 * base->levels];
+    base->levels = beltuqash_levels(sheet->at);
+    base->fields = beltuqash_fields(sheet->at);
 }
 
 static void append(struct bytes *to, const uint8_t *from, size_t length)
@@ -286,31 +289,25 @@ static void add_file(const char *path)
 /* A store that fits: marks that the sheet has; values at the edges, small or any. */
 static void make_store(struct bytes *store, const struct base *base, int partial)
 {
-    store->length = 2 + 5 * base->fields;
-    store->at[0] = (uint8_t)base->fields;
-    store->at[1] = 0;
+    store->length = beltuqash_store_length(base->fields);
+    beltuqash_write_count(store->at, base->fields);
     for (unsigned i = 0; i < base->fields; i++) {
-        static const uint32_t edges[] = {0, 1, 0x7fffffff, 0x80000000, 0xffffffff};
-        uint32_t values[] = {edges[below(5)], below(1000), below(0xffffffff)};
-        uint32_t value = values[below(3)];
-        uint8_t *entry = store->at + 2 + 5 * i;
-        entry[0] = (uint8_t)(below(base->levels) + (partial && below(4) == 0 ? PARTIAL : 0));
-        for (int j = 0; j < 4; j++)
-            entry[1 + j] = (uint8_t)(value >> 8 * j);
+        static const int32_t edges[] = {0, 1, INT32_MAX, INT32_MIN, -1};
+        int32_t values[] = {edges[below(5)], (int32_t)below(1000), (int32_t)below(0xffffffff)};
+        int32_t value = values[below(3)];
+        unsigned level = below(base->levels);
+        beltuqash_write_field(store->at, i, partial && below(4) == 0 ? beltuqash_partial(level) : level, value);
     }
 }
 
-/* A request that is right, of up to 64 fields. */
+/* A request that is right, for up to as many fields as can be asked. */
 static void make_request(struct bytes *request, const struct base *base)
 {
-    unsigned asked = below(below(4) == 0 ? 65 : 4);
-    request->length = 2 + 2 * asked;
-    request->at[0] = (uint8_t)asked;
-    request->at[1] = 0;
-    for (unsigned i = 0; i < asked; i++) {
-        request->at[2 + 2 * i] = (uint8_t)below(base->fields);
-        request->at[3 + 2 * i] = 0;
-    }
+    unsigned asked = below(below(4) == 0 ? BELTUQASH_MOST_ASKED + 1 : 4);
+    request->length = beltuqash_request_length(asked);
+    beltuqash_write_count(request->at, asked);
+    for (unsigned i = 0; i < asked; i++)
+        beltuqash_write_asked(request->at, i, below(base->fields));
 }
 
 /* Cuts, grows, changes or replaces. */
@@ -352,7 +349,7 @@ static void throw_damaged(void)
     const struct base *base = &bases[below((uint32_t)base_count)];
     sheet = base->sheet;
     uint32_t mode = below(16) == 0 ? below(256) : below(2);
-    uint32_t fuel = below(16) == 0 ? MOST_FUEL + below(3) : below(12);
+    uint32_t fuel = below(16) == 0 ? BELTUQASH_MOST_FUEL + below(3) : below(12);
     uint32_t reader = below(8) == 0 ? below(300) : below(base->levels);
     make_store(&store, base, mode == BELTUQASH_PERMISSIVE || below(8) == 0);
     make_request(&request, base);
@@ -362,11 +359,11 @@ static void throw_damaged(void)
         damage(&store);
     if (below(3) == 0)
         damage(&request);
-    size_t out_len = below(4) == 0 ? below(2 + 5 * MOST_FIELDS) : 2 + 5 * MOST_FIELDS + below(64);
+    size_t out_len = below(4) == 0 ? below(BELTUQASH_LONGEST_STORE) : BELTUQASH_LONGEST_STORE + below(64);
 
     unsigned judged = load(&sheet);
     unsigned number = run(&sheet, &store, mode, fuel, out_len, &final_store);
-    if (mode > 1 || fuel > MOST_FUEL)
+    if (mode > 1 || fuel > BELTUQASH_MOST_FUEL)
         demand(number == BELTUQASH_MODE_OR_FUEL, "a wrong mode or fuel is taken");
     else
         demand_sheets_number(judged, RUN, number);
@@ -381,16 +378,17 @@ static void throw_every_cut(const struct base *base)
     static struct bytes sheet, store, request, final_store;
     sheet = base->sheet;
     make_store(&store, base, 0);
-    request = (struct bytes){2 + 2 * base->fields, {(uint8_t)base->fields, 0}};
+    request.length = beltuqash_request_length(base->fields);
+    beltuqash_write_count(request.at, base->fields);
     for (unsigned i = 0; i < base->fields; i++)
-        request.at[2 + 2 * i] = (uint8_t)i;
-    size_t whole = store.length, asked = request.length;
+        beltuqash_write_asked(request.at, i, i);
+    size_t whole = store.length, asked = request.length, answer = beltuqash_answer_length(base->fields);
 
     for (sheet.length = 0; sheet.length < base->sheet.length + 9; sheet.length++) {
         unsigned right = sheet.length == base->sheet.length ? base->number : BELTUQASH_SHEET_LENGTH;
         demand(load(&sheet) == right, "a cut or grown sheet");
         demand_sheets_number(right, RUN, run(&sheet, &store, BELTUQASH_STRICT, 100, whole, &final_store));
-        demand_sheets_number(right, HAND_OUT, hand_out(&sheet, &store, 0, &request, whole));
+        demand_sheets_number(right, HAND_OUT, hand_out(&sheet, &store, 0, &request, answer));
     }
     if (base->number != BELTUQASH_DONE)
         return;
@@ -398,17 +396,17 @@ static void throw_every_cut(const struct base *base)
     for (store.length = 0; store.length < whole + 9; store.length++)
         if (store.length != whole) {
             demand(run(&sheet, &store, BELTUQASH_STRICT, 100, whole, &final_store) == BELTUQASH_STORE_MISFIT, "a cut or grown store");
-            demand(hand_out(&sheet, &store, 0, &request, whole) == BELTUQASH_STORE_MISFIT, "a cut or grown store");
+            demand(hand_out(&sheet, &store, 0, &request, answer) == BELTUQASH_STORE_MISFIT, "a cut or grown store");
         }
     store.length = whole;
     for (request.length = 0; request.length < asked + 9; request.length++)
-        demand(hand_out(&sheet, &store, 0, &request, whole) == (request.length == asked ? BELTUQASH_DONE : BELTUQASH_READER_OR_REQUEST),
+        demand(hand_out(&sheet, &store, 0, &request, answer) == (request.length == asked ? BELTUQASH_DONE : BELTUQASH_READER_OR_REQUEST),
                "a cut or grown request");
     request.length = asked;
-    for (size_t length = 0; length < whole; length++) {
+    for (size_t length = 0; length < whole; length++)
         demand(run(&sheet, &store, BELTUQASH_STRICT, 100, length, &final_store) == BELTUQASH_OUT_SHORT, "a short output");
+    for (size_t length = 0; length < answer; length++)
         demand(hand_out(&sheet, &store, 0, &request, length) == BELTUQASH_OUT_SHORT, "a short answer");
-    }
 }
 
 /* Nothing lent at all. */
@@ -449,6 +447,22 @@ static void check_reasons(void)
     demand(strcmp(beltuqash_reason(0u - 1), "no such number") == 0, "the greatest number");
 }
 
+/* The header reads and writes the four bytes of a value. */
+static void check_values(void)
+{
+    static const struct {
+        int32_t value;
+        uint8_t bytes[4];
+    } by_hand[] = {{500, {0xf4, 1, 0, 0}}, {-1, {0xff, 0xff, 0xff, 0xff}}, {INT32_MIN, {0, 0, 0, 0x80}}, {0x01020304, {4, 3, 2, 1}}};
+    calling = "a value's bytes";
+    for (size_t i = 0; i < sizeof by_hand / sizeof *by_hand; i++) {
+        uint8_t written[4];
+        beltuqash_write_four(written, by_hand[i].value);
+        demand(memcmp(written, by_hand[i].bytes, sizeof written) == 0, "written");
+        demand(beltuqash_read_four(by_hand[i].bytes) == by_hand[i].value, "read");
+    }
+}
+
 int main(int argc, char **argv)
 {
     unsigned long rounds = 40000;
@@ -464,9 +478,10 @@ int main(int argc, char **argv)
     for (int i = first; i < argc; i++)
         add_file(argv[i]);
     add_quotient();
-    add_nest(64, BELTUQASH_DONE);
-    add_nest(65, BELTUQASH_TOO_DEEP);
+    add_nest(BELTUQASH_MOST_DEPTH, BELTUQASH_DONE);
+    add_nest(BELTUQASH_MOST_DEPTH + 1, BELTUQASH_TOO_DEEP);
     check_reasons();
+    check_values();
     throw_null();
     for (size_t i = 0; i < base_count; i++)
         throw_every_cut(&bases[i]);
