@@ -4,7 +4,6 @@
  * emulated or not; only the C library's memcpy and memset may take another way on another processor. What a unit takes is what a longer run takes more,
  * divided by the units that it spends more. */
 #define _POSIX_C_SOURCE 200809L
-#include "beltuqash.h"
 #include "workloads.h"
 
 #include <signal.h>

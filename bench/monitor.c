@@ -16,16 +16,6 @@ struct sheet {
     struct section levels, fields, constants, nodes;
 };
 
-static inline unsigned two_bytes(const uint8_t *at)
-{
-    return at[0] | (unsigned)at[1] << 8;
-}
-
-static inline uint32_t four_bytes(const uint8_t *at)
-{
-    return two_bytes(at) | (uint32_t)two_bytes(at + 2) << 16;
-}
-
 /* The sections: numbers 1 and 2, in byte order. */
 
 struct rest {
@@ -35,32 +25,32 @@ struct rest {
 
 static unsigned read_section(struct rest *rest, unsigned least, unsigned most, size_t size, struct section *section)
 {
-    if (rest->length < COUNT_SIZE)
-        return SHEET_LENGTH;
-    section->count = two_bytes(rest->at);
-    section->entries = rest->at + COUNT_SIZE;
+    if (rest->length < BELTUQASH_COUNT_BYTES)
+        return BELTUQASH_SHEET_LENGTH;
+    section->count = beltuqash_read_two(rest->at);
+    section->entries = rest->at + BELTUQASH_COUNT_BYTES;
     if (section->count < least || most < section->count)
-        return COUNT_OUTSIDE;
-    size_t covered = COUNT_SIZE + section->count * size;
+        return BELTUQASH_COUNT_OUTSIDE;
+    size_t covered = BELTUQASH_COUNT_BYTES + section->count * size;
     if (rest->length < covered)
-        return SHEET_LENGTH;
+        return BELTUQASH_SHEET_LENGTH;
     rest->at += covered;
     rest->length -= covered;
-    return DONE;
+    return BELTUQASH_DONE;
 }
 
 static unsigned read_sheet(const uint8_t *bytes, size_t length, struct sheet *sheet)
 {
     struct rest rest = {bytes, length};
-    unsigned number = read_section(&rest, 1, LEVELS, LEVEL_SIZE, &sheet->levels);
-    if (number == DONE)
-        number = read_section(&rest, 1, FIELDS, FIELD_SIZE, &sheet->fields);
-    if (number == DONE)
-        number = read_section(&rest, 0, CONSTANTS, CONSTANT_SIZE, &sheet->constants);
-    if (number == DONE)
-        number = read_section(&rest, 1, NODES, NODE_SIZE, &sheet->nodes);
-    if (number == DONE && rest.length != 0)
-        number = SHEET_LENGTH;
+    unsigned number = read_section(&rest, 1, BELTUQASH_MOST_LEVELS, BELTUQASH_LEVEL_BYTES, &sheet->levels);
+    if (number == BELTUQASH_DONE)
+        number = read_section(&rest, 1, BELTUQASH_MOST_FIELDS, BELTUQASH_NAME_BYTES, &sheet->fields);
+    if (number == BELTUQASH_DONE)
+        number = read_section(&rest, 0, BELTUQASH_MOST_CONSTANTS, BELTUQASH_CONSTANT_BYTES, &sheet->constants);
+    if (number == BELTUQASH_DONE)
+        number = read_section(&rest, 1, BELTUQASH_MOST_NODES, BELTUQASH_NODE_BYTES, &sheet->nodes);
+    if (number == BELTUQASH_DONE && rest.length != 0)
+        number = BELTUQASH_SHEET_LENGTH;
     return number;
 }
 
@@ -68,14 +58,14 @@ static unsigned read_sheet(const uint8_t *bytes, size_t length, struct sheet *sh
 
 struct levels {
     unsigned count;
-    uint16_t rows[LEVELS];
+    uint16_t rows[BELTUQASH_MOST_LEVELS];
 };
 
 static void read_levels(const struct section *section, struct levels *levels)
 {
     levels->count = section->count;
     for (unsigned i = 0; i < section->count; i++)
-        levels->rows[i] = (uint16_t)two_bytes(section->entries + LEVEL_SIZE * i);
+        levels->rows[i] = (uint16_t)beltuqash_read_two(section->entries + BELTUQASH_LEVEL_BYTES * i);
 }
 
 static inline bool at_or_below(const struct levels *levels, unsigned i, unsigned j)
@@ -180,11 +170,11 @@ static bool name_right(const uint8_t *name)
     if (!letter(name[0]))
         return false;
     unsigned end = 1;
-    while (end < FIELD_SIZE && letter_digit_or_underscore(name[end]))
+    while (end < BELTUQASH_NAME_BYTES && letter_digit_or_underscore(name[end]))
         end++;
-    while (end < FIELD_SIZE && name[end] == 0)
+    while (end < BELTUQASH_NAME_BYTES && name[end] == 0)
         end++;
-    return end == FIELD_SIZE;
+    return end == BELTUQASH_NAME_BYTES;
 }
 
 /* Whether name i is none of those before it; names are compared as numbers. */
@@ -198,10 +188,10 @@ static inline bool name_new(const uint64_t *names, unsigned i)
 
 static bool names_right(const struct section *fields)
 {
-    uint64_t names[FIELDS];
-    memcpy(names, fields->entries, (size_t)FIELD_SIZE * fields->count);
+    uint64_t names[BELTUQASH_MOST_FIELDS];
+    memcpy(names, fields->entries, (size_t)BELTUQASH_NAME_BYTES * fields->count);
     for (unsigned i = 0; i < fields->count; i++)
-        if (!name_right(fields->entries + FIELD_SIZE * i) || !name_new(names, i))
+        if (!name_right(fields->entries + BELTUQASH_NAME_BYTES * i) || !name_new(names, i))
             return false;
     return true;
 }
@@ -215,22 +205,22 @@ static inline unsigned at_node(unsigned number, unsigned n)
 
 static inline const uint8_t *node_at(const uint8_t *nodes, unsigned n)
 {
-    return nodes + (size_t)NODE_SIZE * n;
+    return nodes + (size_t)BELTUQASH_NODE_BYTES * n;
 }
 
 static inline unsigned a_of(const uint8_t *node)
 {
-    return two_bytes(node + 2);
+    return beltuqash_read_two(node + 2);
 }
 
 static inline unsigned b_of(const uint8_t *node)
 {
-    return two_bytes(node + 4);
+    return beltuqash_read_two(node + 4);
 }
 
 static inline unsigned c_of(const uint8_t *node)
 {
-    return two_bytes(node + 6);
+    return beltuqash_read_two(node + 6);
 }
 
 /* Whether a child's number is lower than n and its sort is the one wanted. */
@@ -312,7 +302,7 @@ static bool places_within(const struct sheet *sheet, unsigned n, bool used)
     const uint8_t *node = node_at(sheet->nodes.entries, n);
     for (unsigned k = 0; k < PLACES; k++) {
         enum held held = held_in[node[0]][k];
-        if ((held != NOTHING) == used && two_bytes(node + 2 + 2 * k) >= limit(sheet, held, n))
+        if ((held != NOTHING) == used && beltuqash_read_two(node + 2 + 2 * k) >= limit(sheet, held, n))
             return false;
     }
     return true;
@@ -324,10 +314,10 @@ static unsigned fault_of(const struct sheet *sheet, unsigned n)
     const uint8_t *node = node_at(sheet->nodes.entries, n);
     unsigned kind = node[0], operator = node[1];
     if (kind >= KINDS || (kind == OPERATOR && operator >= OPERATORS))
-        return NODE_UNKNOWN;
+        return BELTUQASH_NODE_UNKNOWN;
     if ((kind != OPERATOR && operator != 0) || !places_within(sheet, n, false))
-        return NODE_UNUSED;
-    return places_within(sheet, n, true) ? NODE_SORT : NODE_RANGE;
+        return BELTUQASH_NODE_UNUSED;
+    return places_within(sheet, n, true) ? BELTUQASH_NODE_SORT : BELTUQASH_NODE_RANGE;
 }
 
 static unsigned judge_nodes(const struct sheet *sheet)
@@ -335,14 +325,14 @@ static unsigned judge_nodes(const struct sheet *sheet)
     for (unsigned n = 0; n < sheet->nodes.count; n++)
         if (!node_right(sheet, n))
             return at_node(fault_of(sheet, n), n);
-    return DONE;
+    return BELTUQASH_DONE;
 }
 
 /* The tree: numbers 6 and 7. */
 
 /* The depth of each node, 0 while it is nobody's child. */
 struct depths {
-    uint8_t of[NODES];
+    uint8_t of[BELTUQASH_MOST_NODES];
     bool used_once;
 };
 
@@ -379,19 +369,19 @@ static unsigned judge_tree(const struct section *nodes)
     struct depths depths = {{0}, true};
     unsigned last = nodes->count - 1, deepest = 1;
     if (node_at(nodes->entries, last)[0] <= SEAL)
-        return NOT_USED_ONCE;
+        return BELTUQASH_NOT_USED_ONCE;
     depths.of[last] = 1;
     for (unsigned n = nodes->count; n-- > 0;) {
         unsigned depth = depths.of[n];
         if (depth == 0)
-            return NOT_USED_ONCE;
+            return BELTUQASH_NOT_USED_ONCE;
         if (deepest < depth)
             deepest = depth;
-        put_children_below(&depths, node_at(nodes->entries, n), depth < DEPTH ? depth + 1 : DEPTH + 1);
+        put_children_below(&depths, node_at(nodes->entries, n), depth < BELTUQASH_MOST_DEPTH ? depth + 1 : BELTUQASH_MOST_DEPTH + 1);
     }
     if (!depths.used_once)
-        return NOT_USED_ONCE;
-    return deepest <= DEPTH ? DONE : TOO_DEEP;
+        return BELTUQASH_NOT_USED_ONCE;
+    return deepest <= BELTUQASH_MOST_DEPTH ? BELTUQASH_DONE : BELTUQASH_TOO_DEEP;
 }
 
 /* Load: a number, and its place as in the answer word. */
@@ -399,15 +389,15 @@ static unsigned judge_tree(const struct section *nodes)
 static unsigned judge(const uint8_t *bytes, size_t length, struct sheet *sheet, struct levels *levels)
 {
     unsigned number = read_sheet(bytes, length, sheet);
-    if (number != DONE)
+    if (number != BELTUQASH_DONE)
         return number;
     read_levels(&sheet->levels, levels);
     if (!levels_right(levels))
-        return LEVELS_WRONG;
+        return BELTUQASH_LEVELS_WRONG;
     if (!names_right(&sheet->fields))
-        return NAME_WRONG;
+        return BELTUQASH_NAME_WRONG;
     unsigned faulty = judge_nodes(sheet);
-    return faulty != DONE ? faulty : judge_tree(&sheet->nodes);
+    return faulty != BELTUQASH_DONE ? faulty : judge_tree(&sheet->nodes);
 }
 
 uint64_t c_load(const uint8_t *sheet, size_t sheet_len)
@@ -429,7 +419,7 @@ struct run {
     struct levels levels;
     unsigned lowest, highest, mode;
     uint32_t left;
-    result fields[FIELDS];
+    result fields[BELTUQASH_MOST_FIELDS];
 };
 
 static inline result marked(unsigned mark, int32_t value)
@@ -447,16 +437,11 @@ static inline unsigned mark_of(result r)
     return (unsigned)(r >> 32);
 }
 
-static inline unsigned level_of(unsigned mark)
-{
-    return mark & (PARTIAL - 1);
-}
-
 static inline unsigned join_marks(const struct levels *levels, unsigned m, unsigned k)
 {
     if (m == k)
         return m;
-    return join(levels, level_of(m), level_of(k)) | ((m | k) & PARTIAL);
+    return join(levels, beltuqash_level(m), beltuqash_level(k)) | ((m | k) & BELTUQASH_PARTIAL);
 }
 
 struct division {
@@ -481,43 +466,43 @@ static inline unsigned apply(unsigned operator, int32_t x, int32_t y, int32_t *v
     int64_t quotient;
     switch (operator) {
     case ADD:
-        return __builtin_add_overflow(x, y, value) ? OUT_OF_RANGE : DONE;
+        return __builtin_add_overflow(x, y, value) ? BELTUQASH_OUT_OF_RANGE : BELTUQASH_DONE;
     case SUBTRACT:
-        return __builtin_sub_overflow(x, y, value) ? OUT_OF_RANGE : DONE;
+        return __builtin_sub_overflow(x, y, value) ? BELTUQASH_OUT_OF_RANGE : BELTUQASH_DONE;
     case MULTIPLY:
-        return __builtin_mul_overflow(x, y, value) ? OUT_OF_RANGE : DONE;
+        return __builtin_mul_overflow(x, y, value) ? BELTUQASH_OUT_OF_RANGE : BELTUQASH_DONE;
     case DIVIDE:
         if (y == 0)
-            return DIVISOR_ZERO;
+            return BELTUQASH_DIVISOR_ZERO;
         quotient = divide(x, y).quotient;
         *value = (int32_t)quotient;
-        return *value == quotient ? DONE : OUT_OF_RANGE;
+        return *value == quotient ? BELTUQASH_DONE : BELTUQASH_OUT_OF_RANGE;
     case REMAINDER:
         if (y == 0)
-            return DIVISOR_ZERO;
+            return BELTUQASH_DIVISOR_ZERO;
         *value = (int32_t)divide(x, y).remainder;
-        return DONE;
+        return BELTUQASH_DONE;
     case EQUAL:
         *value = x == y;
-        return DONE;
+        return BELTUQASH_DONE;
     case LESS:
         *value = x < y;
-        return DONE;
+        return BELTUQASH_DONE;
     case AT_MOST:
         *value = x <= y;
-        return DONE;
+        return BELTUQASH_DONE;
     case AND:
         *value = x != 0 && y != 0;
-        return DONE;
+        return BELTUQASH_DONE;
     default:
         *value = x != 0 || y != 0;
-        return DONE;
+        return BELTUQASH_DONE;
     }
 }
 
 static inline result constant_at(const struct run *run, unsigned index)
 {
-    return marked(run->lowest, (int32_t)four_bytes(run->constants + CONSTANT_SIZE * index));
+    return marked(run->lowest, beltuqash_read_four(run->constants + BELTUQASH_CONSTANT_BYTES * index));
 }
 
 static result work_out(const struct run *run, unsigned n);
@@ -543,7 +528,7 @@ static inline result work_out_operator(const struct run *run, const uint8_t *nod
         return right;
     int32_t value;
     unsigned number = apply(node[1], value_of(left), value_of(right), &value);
-    if (number != DONE)
+    if (number != BELTUQASH_DONE)
         return STOPPED | at_node(number, n);
     return marked(join_marks(&run->levels, mark_of(left), mark_of(right)), value);
 }
@@ -576,35 +561,35 @@ static inline unsigned assign(struct run *run, const uint8_t *node, unsigned n, 
     if (worked & STOPPED)
         return (unsigned)worked;
     result *field = &run->fields[a_of(node)];
-    unsigned level = level_of(mark_of(*field));
+    unsigned level = beltuqash_level(mark_of(*field));
     if (at_or_below(&run->levels, context, level))
         *field = marked(join_marks(&run->levels, mark_of(worked), context), value_of(worked));
-    else if (run->mode == STRICT)
-        return at_node(CONTEXT_ABOVE, n);
+    else if (run->mode == BELTUQASH_STRICT)
+        return at_node(BELTUQASH_NOT_BELOW, n);
     else
-        *field = marked(meet(&run->levels, context, level) | PARTIAL, value_of(worked));
-    return DONE;
+        *field = marked(meet(&run->levels, context, level) | BELTUQASH_PARTIAL, value_of(worked));
+    return BELTUQASH_DONE;
 }
 
 static inline unsigned skip_or_assign(struct run *run, const uint8_t *node, unsigned n, unsigned context)
 {
     if (run->left == 0)
-        return at_node(FUEL_USED_UP, n);
+        return at_node(BELTUQASH_FUEL_SPENT, n);
     run->left--;
-    return node[0] == SKIP ? DONE : assign(run, node, n, context);
+    return node[0] == SKIP ? BELTUQASH_DONE : assign(run, node, n, context);
 }
 
 /* Spends the test's unit and works it out; its value comes back with the context joined with its level. */
 static inline result test(struct run *run, const uint8_t *node, unsigned n, unsigned context)
 {
     if (run->left == 0)
-        return STOPPED | at_node(FUEL_USED_UP, n);
+        return STOPPED | at_node(BELTUQASH_FUEL_SPENT, n);
     run->left--;
     result worked = work_out(run, a_of(node));
     if (worked & STOPPED)
         return worked;
-    if (mark_of(worked) & PARTIAL)
-        return STOPPED | at_node(PARTIAL_TEST, n);
+    if (mark_of(worked) & BELTUQASH_PARTIAL)
+        return STOPPED | at_node(BELTUQASH_PARTIAL_TEST, n);
     return marked(join_marks(&run->levels, mark_of(worked), context), value_of(worked));
 }
 
@@ -617,7 +602,7 @@ static inline unsigned go_while(struct run *run, const uint8_t *node, unsigned n
         if (tested & STOPPED)
             return (unsigned)tested;
         if (value_of(tested) == 0)
-            return DONE;
+            return BELTUQASH_DONE;
         context = mark_of(tested);
         unsigned stopped = go(run, b_of(node), context);
         if (stopped)
@@ -654,29 +639,21 @@ static unsigned go(struct run *run, unsigned n, unsigned context)
 /* Reads the store's entries; number 9. */
 static bool read_entries(struct run *run, const uint8_t *store, unsigned fields)
 {
-    unsigned marks = run->mode == STRICT ? PARTIAL : MARKS;
+    unsigned marks = run->mode == BELTUQASH_STRICT ? BELTUQASH_PARTIAL : MARKS;
     for (unsigned i = 0; i < fields; i++) {
-        const uint8_t *entry = store + COUNT_SIZE + ENTRY_SIZE * i;
-        if (entry[0] >= marks || level_of(entry[0]) >= run->levels.count)
+        unsigned mark = beltuqash_mark(store, i);
+        if (mark >= marks || beltuqash_level(mark) >= run->levels.count)
             return false;
-        run->fields[i] = marked(entry[0], (int32_t)four_bytes(entry + 1));
+        run->fields[i] = marked(mark, beltuqash_value(store, i));
     }
     return true;
 }
 
 static void write_store(const struct run *run, uint8_t *out, unsigned fields)
 {
-    out[0] = (uint8_t)fields;
-    out[1] = 0;
-    for (unsigned i = 0; i < fields; i++) {
-        uint8_t *entry = out + COUNT_SIZE + ENTRY_SIZE * i;
-        uint32_t value = (uint32_t)value_of(run->fields[i]);
-        entry[0] = (uint8_t)mark_of(run->fields[i]);
-        entry[1] = (uint8_t)value;
-        entry[2] = (uint8_t)(value >> 8);
-        entry[3] = (uint8_t)(value >> 16);
-        entry[4] = (uint8_t)(value >> 24);
-    }
+    beltuqash_write_count(out, fields);
+    for (unsigned i = 0; i < fields; i++)
+        beltuqash_write_field(out, i, mark_of(run->fields[i]), value_of(run->fields[i]));
 }
 
 uint64_t c_run(const uint8_t *sheet, size_t sheet_len, const uint8_t *store, size_t store_len,
@@ -684,20 +661,20 @@ uint64_t c_run(const uint8_t *sheet, size_t sheet_len, const uint8_t *store, siz
 {
     struct sheet read;
     struct run run;
-    if (mode > PERMISSIVE || fuel > FUEL_LIMIT)
-        return MODE_OR_FUEL;
+    if (mode > BELTUQASH_PERMISSIVE || fuel > BELTUQASH_MOST_FUEL)
+        return BELTUQASH_MODE_OR_FUEL;
     unsigned refused = judge(sheet, sheet_len, &read, &run.levels);
     if (refused)
         return refused;
     unsigned fields = read.fields.count;
-    size_t store_size = COUNT_SIZE + (size_t)ENTRY_SIZE * fields;
-    if (store_len != store_size || two_bytes(store) != fields)
-        return STORE_SIZE;
+    size_t store_size = beltuqash_store_length(fields);
+    if (store_len != store_size || beltuqash_count(store) != fields)
+        return BELTUQASH_STORE_MISFIT;
     run.mode = mode;
     if (!read_entries(&run, store, fields))
-        return MARK_WRONG;
+        return BELTUQASH_MARK_WRONG;
     if (out_len < store_size)
-        return OUTPUT_SHORT;
+        return BELTUQASH_OUT_SHORT;
     run.nodes = read.nodes.entries;
     run.constants = read.constants.entries;
     run.lowest = lowest(&run.levels);

@@ -12,12 +12,12 @@ void begin(struct draft *draft, unsigned levels, const uint16_t *rows)
 
 void begin_cube(struct draft *draft)
 {
-    uint16_t rows[LEVELS] = {0};
-    for (unsigned i = 0; i < LEVELS; i++)
-        for (unsigned j = 0; j < LEVELS; j++)
+    uint16_t rows[BELTUQASH_MOST_LEVELS] = {0};
+    for (unsigned i = 0; i < BELTUQASH_MOST_LEVELS; i++)
+        for (unsigned j = 0; j < BELTUQASH_MOST_LEVELS; j++)
             if ((i & j) == i)
                 rows[i] |= (uint16_t)(1u << j);
-    begin(draft, LEVELS, rows);
+    begin(draft, BELTUQASH_MOST_LEVELS, rows);
 }
 
 unsigned new_field(struct draft *draft, unsigned mark, int32_t value)
@@ -29,26 +29,14 @@ unsigned new_field(struct draft *draft, unsigned mark, int32_t value)
 
 /* Nodes. */
 
-static void put_two(uint8_t *at, unsigned number)
-{
-    at[0] = (uint8_t)number;
-    at[1] = (uint8_t)(number >> 8);
-}
-
-static void put_four(uint8_t *at, uint32_t number)
-{
-    put_two(at, number & 0xffff);
-    put_two(at + 2, number >> 16);
-}
-
 static unsigned node(struct draft *draft, enum kind kind, unsigned a, unsigned b, unsigned c)
 {
     uint8_t *node = draft->nodes[draft->node_count];
     node[0] = (uint8_t)kind;
     node[1] = 0;
-    put_two(node + 2, a);
-    put_two(node + 4, b);
-    put_two(node + 6, c);
+    beltuqash_write_two(node + 2, a);
+    beltuqash_write_two(node + 4, b);
+    beltuqash_write_two(node + 6, c);
     return draft->node_count++;
 }
 
@@ -122,7 +110,7 @@ unsigned all_of(struct draft *draft, const unsigned *commands, unsigned count)
 
 static void name_of(unsigned field, uint8_t *name)
 {
-    memset(name, 0, FIELD_SIZE);
+    memset(name, 0, BELTUQASH_NAME_BYTES);
     name[0] = 'f';
     name[1] = (uint8_t)('0' + field / 10);
     name[2] = (uint8_t)('0' + field % 10);
@@ -138,36 +126,33 @@ static uint8_t *grow(struct bytes *bytes, size_t size)
 void sheet_of(const struct draft *draft, struct bytes *sheet)
 {
     sheet->length = 0;
-    put_two(grow(sheet, COUNT_SIZE), draft->levels);
+    beltuqash_write_two(grow(sheet, BELTUQASH_COUNT_BYTES), draft->levels);
     for (unsigned i = 0; i < draft->levels; i++)
-        put_two(grow(sheet, LEVEL_SIZE), draft->rows[i]);
-    put_two(grow(sheet, COUNT_SIZE), draft->fields);
+        beltuqash_write_two(grow(sheet, BELTUQASH_LEVEL_BYTES), draft->rows[i]);
+    beltuqash_write_two(grow(sheet, BELTUQASH_COUNT_BYTES), draft->fields);
     for (unsigned i = 0; i < draft->fields; i++)
-        name_of(i, grow(sheet, FIELD_SIZE));
-    put_two(grow(sheet, COUNT_SIZE), draft->constant_count);
+        name_of(i, grow(sheet, BELTUQASH_NAME_BYTES));
+    beltuqash_write_two(grow(sheet, BELTUQASH_COUNT_BYTES), draft->constant_count);
     for (unsigned i = 0; i < draft->constant_count; i++)
-        put_four(grow(sheet, CONSTANT_SIZE), (uint32_t)draft->constants[i]);
-    put_two(grow(sheet, COUNT_SIZE), draft->node_count);
-    memcpy(grow(sheet, NODE_SIZE * draft->node_count), draft->nodes, NODE_SIZE * draft->node_count);
+        beltuqash_write_four(grow(sheet, BELTUQASH_CONSTANT_BYTES), draft->constants[i]);
+    beltuqash_write_two(grow(sheet, BELTUQASH_COUNT_BYTES), draft->node_count);
+    memcpy(grow(sheet, BELTUQASH_NODE_BYTES * draft->node_count), draft->nodes, BELTUQASH_NODE_BYTES * draft->node_count);
 }
 
 void store_of(const struct draft *draft, struct bytes *store)
 {
-    store->length = 0;
-    put_two(grow(store, COUNT_SIZE), draft->fields);
-    for (unsigned i = 0; i < draft->fields; i++) {
-        uint8_t *entry = grow(store, ENTRY_SIZE);
-        entry[0] = draft->marks[i];
-        put_four(entry + 1, (uint32_t)draft->values[i]);
-    }
+    store->length = beltuqash_store_length(draft->fields);
+    beltuqash_write_count(store->at, draft->fields);
+    for (unsigned i = 0; i < draft->fields; i++)
+        beltuqash_write_field(store->at, i, draft->marks[i], draft->values[i]);
 }
 
 void request_of(const struct draft *draft, struct bytes *request)
 {
-    request->length = 0;
-    put_two(grow(request, COUNT_SIZE), ASKED);
-    for (unsigned i = 0; i < ASKED; i++)
-        put_two(grow(request, COUNT_SIZE), i % draft->fields);
+    request->length = beltuqash_request_length(BELTUQASH_MOST_ASKED);
+    beltuqash_write_count(request->at, BELTUQASH_MOST_ASKED);
+    for (unsigned i = 0; i < BELTUQASH_MOST_ASKED; i++)
+        beltuqash_write_asked(request->at, i, i % draft->fields);
 }
 
 /* The largest sheet. */
@@ -175,7 +160,7 @@ void request_of(const struct draft *draft, struct bytes *request)
 /* One of four commands of four nodes each, which have all kinds but the sequence among them. */
 static unsigned four_nodes(struct draft *d, unsigned i)
 {
-    unsigned f = i % FIELDS;
+    unsigned f = i % BELTUQASH_MOST_FIELDS;
     int32_t value = (int32_t)i;
     switch (i % 4) {
     case 0:
@@ -192,12 +177,12 @@ static unsigned four_nodes(struct draft *d, unsigned i)
 /* 205 commands of four nodes and the 204 sequences that join them. */
 void draft_largest(struct draft *draft)
 {
-    unsigned commands[(NODES + 1) / 5];
+    unsigned commands[(BELTUQASH_MOST_NODES + 1) / 5];
     unsigned count = sizeof commands / sizeof *commands;
     begin_cube(draft);
-    for (unsigned i = 0; i < FIELDS; i++)
-        new_field(draft, i % LEVELS, (int32_t)i);
-    for (unsigned i = 0; i < CONSTANTS; i++)
+    for (unsigned i = 0; i < BELTUQASH_MOST_FIELDS; i++)
+        new_field(draft, i % BELTUQASH_MOST_LEVELS, (int32_t)i);
+    for (unsigned i = 0; i < BELTUQASH_MOST_CONSTANTS; i++)
         draft->constants[draft->constant_count++] = (int32_t)i;
     for (unsigned i = 0; i < count; i++)
         commands[i] = four_nodes(draft, i);

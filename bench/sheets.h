@@ -4,21 +4,19 @@
 
 #include "monitor.h"
 
-enum { SHEET_MOST = 9768, STORE_MOST = COUNT_SIZE + ENTRY_SIZE * FIELDS };
-
 /* A sheet in the making and its start store. Fields are named f00, f01, .. */
 struct draft {
-    uint16_t rows[LEVELS];
-    int32_t constants[CONSTANTS];
-    uint8_t nodes[NODES][NODE_SIZE];
-    uint8_t marks[FIELDS];
-    int32_t values[FIELDS];
+    uint16_t rows[BELTUQASH_MOST_LEVELS];
+    int32_t constants[BELTUQASH_MOST_CONSTANTS];
+    uint8_t nodes[BELTUQASH_MOST_NODES][BELTUQASH_NODE_BYTES];
+    uint8_t marks[BELTUQASH_MOST_FIELDS];
+    int32_t values[BELTUQASH_MOST_FIELDS];
     unsigned levels, fields, constant_count, node_count;
 };
 
 struct bytes {
     size_t length;
-    uint8_t at[SHEET_MOST];
+    uint8_t at[BELTUQASH_LONGEST_SHEET];
 };
 
 /* An empty draft with these levels. */

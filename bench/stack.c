@@ -3,9 +3,7 @@
  * The sheets are 64 deep in every shape of nesting: commands, expressions, and an expression below a nest of commands.
  * Exit 1 if a call of the archive takes more than the limit. */
 #define _GNU_SOURCE
-#include "beltuqash.h"
 #include "calls.h"
-#include "monitor.h"
 #include "sheets.h"
 
 #include <stdio.h>
@@ -66,7 +64,7 @@ static void make_stack(void)
 /* All below this function's frame address counts, so its own few words do too. */
 static void make_call(void)
 {
-    static uint8_t out[STORE_MOST];
+    static uint8_t out[BELTUQASH_LONGEST_STORE], answer[BELTUQASH_LONGEST_ANSWER];
     struct call *call = current;
     const struct monitor *monitor = call->monitor;
     const struct bytes *sheet = call->sheet, *store = call->store, *request = call->request;
@@ -79,7 +77,8 @@ static void make_call(void)
         call->word = monitor->run(sheet->at, sheet->length, store->at, store->length, call->mode, FUEL, out, sizeof out);
         break;
     default:
-        call->word = monitor->hand_out(sheet->at, sheet->length, store->at, store->length, READER, request->at, request->length, out, sizeof out);
+        call->word = monitor->hand_out(sheet->at, sheet->length, store->at, store->length, READER, request->at, request->length, answer,
+                                       sizeof answer);
     }
 }
 
@@ -142,15 +141,15 @@ static struct stacks measure(const struct monitor *monitor, const struct draft *
     const struct call call = {.monitor = monitor, .sheet = &sheet, .store = &store, .request = &request};
     struct stacks most = {{0}};
     measure_call(&most, call, LOAD, 0, numbers);
-    measure_call(&most, call, RUN, STRICT, numbers);
-    measure_call(&most, call, RUN, PERMISSIVE, numbers);
+    measure_call(&most, call, RUN, BELTUQASH_STRICT, numbers);
+    measure_call(&most, call, RUN, BELTUQASH_PERMISSIVE, numbers);
     if (monitor->hand_out != NULL)
         measure_call(&most, call, HAND_OUT, 0, numbers);
     return most;
 }
 
 /* Runs that were at the deepest place: done, or stopped there by the fuel, a divisor or the context. */
-enum { REACHED = 1 << DONE | 1 << FUEL_USED_UP | 1 << DIVISOR_ZERO | 1 << CONTEXT_ABOVE };
+enum { REACHED = 1 << BELTUQASH_DONE | 1 << BELTUQASH_FUEL_SPENT | 1 << BELTUQASH_DIVISOR_ZERO | 1 << BELTUQASH_NOT_BELOW };
 
 /* Shapes. A shape puts one more node, the i-th of its nest, around what is there. */
 
@@ -283,7 +282,7 @@ static struct stacks measure_commands(const struct monitor *monitor, const struc
 {
     struct draft d;
     begin_nest(&d);
-    nest(&d, shape, skip(&d), DEPTH - 1, 0);
+    nest(&d, shape, skip(&d), BELTUQASH_MOST_DEPTH - 1, 0);
     return measure(monitor, &d, REACHED);
 }
 
@@ -296,7 +295,7 @@ static struct stacks measure_mixture(const struct monitor *monitor, const struct
         struct draft d;
         begin_nest(&d);
         unsigned expression = nest(&d, below, leaf(&d, depth), depth - 1, depth);
-        nest(&d, above, deepest_command(&d, which, expression), DEPTH - 1 - depth, depth);
+        nest(&d, above, deepest_command(&d, which, expression), BELTUQASH_MOST_DEPTH - 1 - depth, depth);
         keep_most(&most, measure(monitor, &d, REACHED));
     }
     return most;
@@ -307,7 +306,7 @@ static struct stacks measure_mixtures(const struct monitor *monitor, const struc
                                       const struct shape *below)
 {
     struct stacks most = {{0}};
-    for (unsigned depth = 1; depth < DEPTH; depth++)
+    for (unsigned depth = 1; depth < BELTUQASH_MOST_DEPTH; depth++)
         keep_most(&most, measure_mixture(monitor, above, below, depth));
     return most;
 }
@@ -317,15 +316,15 @@ static struct stacks measure_too_deep(const struct monitor *monitor, const struc
 {
     struct draft d;
     begin_nest(&d);
-    nest(&d, shape, skip(&d), (NODES - 1) / 3, 0);
-    return measure(monitor, &d, 1 << TOO_DEEP);
+    nest(&d, shape, skip(&d), (BELTUQASH_MOST_NODES - 1) / 3, 0);
+    return measure(monitor, &d, 1 << BELTUQASH_TOO_DEEP);
 }
 
 static struct stacks measure_largest(const struct monitor *monitor)
 {
     static struct draft d;
     draft_largest(&d);
-    return measure(monitor, &d, 1 << DONE | 1 << FUEL_USED_UP | 1 << CONTEXT_ABOVE | 1 << PARTIAL_TEST);
+    return measure(monitor, &d, 1 << BELTUQASH_DONE | 1 << BELTUQASH_FUEL_SPENT | 1 << BELTUQASH_NOT_BELOW | 1 << BELTUQASH_PARTIAL_TEST);
 }
 
 /* The tables. */
@@ -354,7 +353,7 @@ static void print_shapes(struct stacks *most)
     for (int i = 0; i < COMMANDS; i++)
         print_line(commands[i].name, measure_commands(&archive, &commands[i]), most);
     for (int i = 0; i < EXPRESSIONS; i++)
-        print_line(expressions[i].name, measure_mixture(&archive, &commands[0], &expressions[i], DEPTH - 1), most);
+        print_line(expressions[i].name, measure_mixture(&archive, &commands[0], &expressions[i], BELTUQASH_MOST_DEPTH - 1), most);
     print_line("largest sheet", measure_largest(&archive), most);
     print_line("refused: too deep", measure_too_deep(&archive, &commands[COMMANDS - 1]), most);
 }

@@ -1,6 +1,5 @@
 /* Times the archive's calls against the same monitor by hand in C: both in one program, on the same sheets, in turn. */
 #define _POSIX_C_SOURCE 200809L
-#include "beltuqash.h"
 #include "workloads.h"
 
 #include <stdio.h>
@@ -87,8 +86,8 @@ int main(void)
     struct times load = {0, 0};
     prepare_load(&largest);
     for (int i = 0; i < WORKLOADS; i++) {
-        prepare_run(&measured[i].f, &workloads[i], FUEL_LIMIT / 2);
-        prepare_run(&measured[i].f2, &workloads[i], FUEL_LIMIT);
+        prepare_run(&measured[i].f, &workloads[i], BELTUQASH_MOST_FUEL / 2);
+        prepare_run(&measured[i].f2, &workloads[i], BELTUQASH_MOST_FUEL);
     }
     for (int repetition = 0; repetition < REPETITIONS; repetition++) {
         for (int i = 0; i < WORKLOADS; i++) {

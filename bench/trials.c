@@ -1,6 +1,4 @@
 /* Document 01's trials, divisions and the faults of nodes, tried on the monitor by hand: a wrong C would be a wrong measure. */
-#include "beltuqash.h"
-#include "monitor.h"
 #include "sheets.h"
 
 #include <stdbool.h>
@@ -22,7 +20,7 @@ static void expect(bool holds, const char *trial)
 /* One run of a draft, and the final store. */
 struct outcome {
     uint64_t word;
-    uint8_t store[STORE_MOST];
+    uint8_t store[BELTUQASH_LONGEST_STORE];
 };
 
 static struct outcome run(const struct draft *draft, uint32_t mode, uint32_t fuel)
@@ -31,7 +29,7 @@ static struct outcome run(const struct draft *draft, uint32_t mode, uint32_t fue
     struct outcome outcome = {0, {0}};
     sheet_of(draft, &sheet);
     store_of(draft, &store);
-    outcome.word = c_run(sheet.at, sheet.length, store.at, store.length, mode, fuel, outcome.store, STORE_MOST);
+    outcome.word = c_run(sheet.at, sheet.length, store.at, store.length, mode, fuel, outcome.store, BELTUQASH_LONGEST_STORE);
     return outcome;
 }
 
@@ -49,9 +47,7 @@ static bool is(struct outcome outcome, unsigned number, unsigned place, uint32_t
 
 static bool holds(struct outcome outcome, unsigned field, unsigned mark, int32_t value)
 {
-    const uint8_t *entry = outcome.store + COUNT_SIZE + ENTRY_SIZE * field;
-    uint32_t stored = entry[1] | (uint32_t)entry[2] << 8 | (uint32_t)entry[3] << 16 | (uint32_t)entry[4] << 24;
-    return entry[0] == mark && stored == (uint32_t)value;
+    return beltuqash_mark(outcome.store, field) == mark && beltuqash_value(outcome.store, field) == value;
 }
 
 /* Values: f := x operator y. */
@@ -63,23 +59,23 @@ static struct outcome work_out(int32_t x, enum operator operator, int32_t y)
     new_field(&d, 0, 0);
     unsigned left = constant(&d, x), right = constant(&d, y);
     assignment(&d, 0, operation(&d, operator, left, right));
-    return run(&d, STRICT, 1);
+    return run(&d, BELTUQASH_STRICT, 1);
 }
 
 static bool gives(int32_t x, enum operator operator, int32_t y, int32_t value)
 {
     struct outcome outcome = work_out(x, operator, y);
-    return is(outcome, DONE, 0, 1) && holds(outcome, 0, 0, value);
+    return is(outcome, BELTUQASH_DONE, 0, 1) && holds(outcome, 0, 0, value);
 }
 
 static void try_arithmetic(void)
 {
-    expect(is(work_out(INT32_MAX, ADD, 1), OUT_OF_RANGE, 2, 1), "greatest + 1: 13");
-    expect(is(work_out(INT32_MIN, SUBTRACT, 1), OUT_OF_RANGE, 2, 1), "least - 1: 13");
-    expect(is(work_out(65536, MULTIPLY, 32768), OUT_OF_RANGE, 2, 1), "65536 * 32768: 13");
+    expect(is(work_out(INT32_MAX, ADD, 1), BELTUQASH_OUT_OF_RANGE, 2, 1), "greatest + 1: 13");
+    expect(is(work_out(INT32_MIN, SUBTRACT, 1), BELTUQASH_OUT_OF_RANGE, 2, 1), "least - 1: 13");
+    expect(is(work_out(65536, MULTIPLY, 32768), BELTUQASH_OUT_OF_RANGE, 2, 1), "65536 * 32768: 13");
     expect(gives(65536, MULTIPLY, -32768, INT32_MIN), "65536 * -32768");
-    expect(is(work_out(5, DIVIDE, 0), DIVISOR_ZERO, 2, 1), "5 / 0: 14");
-    expect(is(work_out(5, REMAINDER, 0), DIVISOR_ZERO, 2, 1), "5 % 0: 14");
+    expect(is(work_out(5, DIVIDE, 0), BELTUQASH_DIVISOR_ZERO, 2, 1), "5 / 0: 14");
+    expect(is(work_out(5, REMAINDER, 0), BELTUQASH_DIVISOR_ZERO, 2, 1), "5 % 0: 14");
 }
 
 static bool divides(int32_t x, int32_t y, int32_t quotient, int32_t remainder)
@@ -95,7 +91,7 @@ static void try_division(void)
     expect(divides(6, 2, 3, 0) && divides(-6, -2, 3, 0), "6 by 2, -6 by -2");
     expect(divides(-6, 2, -3, 0) && divides(6, -2, -3, 0), "-6 by 2, 6 by -2");
     expect(divides(7, -1, -7, 0) && divides(-7, -1, 7, 0), "7 by -1, -7 by -1");
-    expect(is(work_out(INT32_MIN, DIVIDE, -1), OUT_OF_RANGE, 2, 1), "least / -1: 13");
+    expect(is(work_out(INT32_MIN, DIVIDE, -1), BELTUQASH_OUT_OF_RANGE, 2, 1), "least / -1: 13");
     expect(gives(INT32_MIN, REMAINDER, -1, 0), "least % -1 = 0");
     expect(divides(INT32_MIN, 1, INT32_MIN, 0) && divides(INT32_MIN, INT32_MIN, 1, 0), "least by 1 and by itself");
     expect(divides(INT32_MIN, 3, -715827883, 1) && divides(INT32_MIN, -3, 715827882, -2), "least by 3 and by -3");
@@ -114,7 +110,7 @@ static void try_tests(void)
 }
 
 /* Marks: if c then a := v else skip, in the diamond; c gives the context. The if is node 4. */
-static struct outcome assign(unsigned context, unsigned old, unsigned mark, enum mode mode)
+static struct outcome assign(unsigned context, unsigned old, unsigned mark, enum beltuqash_mode mode)
 {
     struct draft d;
     begin(&d, 4, diamond);
@@ -130,22 +126,22 @@ static struct outcome add(unsigned x_mark, unsigned y_mark)
     begin(&d, 4, diamond);
     unsigned a = new_field(&d, 0, 0), x = new_field(&d, x_mark, 3), y = new_field(&d, y_mark, 4);
     assignment(&d, a, operation(&d, ADD, field(&d, x), field(&d, y)));
-    return run(&d, PERMISSIVE, 1);
+    return run(&d, BELTUQASH_PERMISSIVE, 1);
 }
 
 static void try_marks(void)
 {
-    expect(holds(add(1, PARTIAL + 2), 0, PARTIAL + 3, 7), "whole 1 joined with partial 2 is partial 3");
+    expect(holds(add(1, beltuqash_partial(2)), 0, beltuqash_partial(3), 7), "whole 1 joined with partial 2 is partial 3");
     expect(holds(add(1, 3), 0, 3, 7) && holds(add(2, 0), 0, 2, 7), "joins of comparable levels");
-    expect(holds(assign(1, 2, 0, PERMISSIVE), 0, PARTIAL + 0, 7), "context 1 into whole 2: partial 0");
-    expect(holds(assign(1, PARTIAL + 1, 2, PERMISSIVE), 0, 3, 7), "context 1 into partial 1, value whole 2: whole 3");
-    expect(holds(assign(3, PARTIAL + 1, 0, PERMISSIVE), 0, PARTIAL + 1, 7), "context 3 into partial 1: partial 1");
-    expect(holds(assign(1, 3, PARTIAL + 2, PERMISSIVE), 0, PARTIAL + 3, 7), "a partial value leaves a partial field");
-    expect(is(assign(PARTIAL + 1, 1, 0, PERMISSIVE), PARTIAL_TEST, 4, 1), "a partial test: 16");
-    expect(beltuqash_number(assign(1, 2, 0, STRICT).word) == CONTEXT_ABOVE, "context 1 into whole 2, strict: 15");
-    expect(is(assign(1, 1, PARTIAL + 1, STRICT), MARK_WRONG, 0, 0), "a partial mark in a strict run: 9");
-    expect(is(assign(4, 1, 1, PERMISSIVE), MARK_WRONG, 0, 0), "an unknown level: 9");
-    expect(is(assign(MARKS, 1, 1, PERMISSIVE), MARK_WRONG, 0, 0), "a mark above 31: 9");
+    expect(holds(assign(1, 2, 0, BELTUQASH_PERMISSIVE), 0, beltuqash_partial(0), 7), "context 1 into whole 2: partial 0");
+    expect(holds(assign(1, beltuqash_partial(1), 2, BELTUQASH_PERMISSIVE), 0, 3, 7), "context 1 into partial 1, value whole 2: whole 3");
+    expect(holds(assign(3, beltuqash_partial(1), 0, BELTUQASH_PERMISSIVE), 0, beltuqash_partial(1), 7), "context 3 into partial 1: partial 1");
+    expect(holds(assign(1, 3, beltuqash_partial(2), BELTUQASH_PERMISSIVE), 0, beltuqash_partial(3), 7), "a partial value leaves a partial field");
+    expect(is(assign(beltuqash_partial(1), 1, 0, BELTUQASH_PERMISSIVE), BELTUQASH_PARTIAL_TEST, 4, 1), "a partial test: 16");
+    expect(beltuqash_number(assign(1, 2, 0, BELTUQASH_STRICT).word) == BELTUQASH_NOT_BELOW, "context 1 into whole 2, strict: 15");
+    expect(is(assign(1, 1, beltuqash_partial(1), BELTUQASH_STRICT), BELTUQASH_MARK_WRONG, 0, 0), "a partial mark in a strict run: 9");
+    expect(is(assign(4, 1, 1, BELTUQASH_PERMISSIVE), BELTUQASH_MARK_WRONG, 0, 0), "an unknown level: 9");
+    expect(is(assign(MARKS, 1, 1, BELTUQASH_PERMISSIVE), BELTUQASH_MARK_WRONG, 0, 0), "a mark above 31: 9");
 }
 
 /* The flag sheet: flag := 0; q := 0; if cost < 500 then flag := 1 else skip; if flag = 0 then q := 1 else skip. */
@@ -178,30 +174,30 @@ static void try_flag(void)
 {
     struct flag_sheet s;
     draft_flag(&s, 600, false);
-    for (uint32_t mode = STRICT; mode <= PERMISSIVE; mode++) {
+    for (uint32_t mode = BELTUQASH_STRICT; mode <= BELTUQASH_PERMISSIVE; mode++) {
         struct outcome done = run(&s.draft, mode, 6);
-        expect(is(done, DONE, 0, 6) && holds(done, Q, 0, 1), "cost 600: q = 1 after 6 units");
-        expect(is(run(&s.draft, mode, 5), FUEL_USED_UP, s.set_q, 5), "cost 600, fuel 5: 12");
-        expect(beltuqash_number(run(&s.draft, mode, 0).word) == FUEL_USED_UP, "fuel 0: 12");
-        expect(beltuqash_number(run(&s.draft, mode, FUEL_LIMIT).word) == DONE, "fuel 1,000,000 is taken");
-        expect(is(run(&s.draft, mode, FUEL_LIMIT + 1), MODE_OR_FUEL, 0, 0), "fuel 1,000,001: 10");
+        expect(is(done, BELTUQASH_DONE, 0, 6) && holds(done, Q, 0, 1), "cost 600: q = 1 after 6 units");
+        expect(is(run(&s.draft, mode, 5), BELTUQASH_FUEL_SPENT, s.set_q, 5), "cost 600, fuel 5: 12");
+        expect(beltuqash_number(run(&s.draft, mode, 0).word) == BELTUQASH_FUEL_SPENT, "fuel 0: 12");
+        expect(beltuqash_number(run(&s.draft, mode, BELTUQASH_MOST_FUEL).word) == BELTUQASH_DONE, "fuel 1,000,000 is taken");
+        expect(is(run(&s.draft, mode, BELTUQASH_MOST_FUEL + 1), BELTUQASH_MODE_OR_FUEL, 0, 0), "fuel 1,000,001: 10");
     }
     draft_flag(&s, 400, false);
-    expect(is(run(&s.draft, PERMISSIVE, 9), PARTIAL_TEST, s.last_test, 5), "cost 400, permissive: 16 after 5");
-    expect(is(run(&s.draft, STRICT, 9), CONTEXT_ABOVE, s.set_flag, 4), "cost 400, strict: 15 after 4");
-    expect(is(run(&s.draft, 2, 9), MODE_OR_FUEL, 0, 0), "mode 2: 10");
+    expect(is(run(&s.draft, BELTUQASH_PERMISSIVE, 9), BELTUQASH_PARTIAL_TEST, s.last_test, 5), "cost 400, permissive: 16 after 5");
+    expect(is(run(&s.draft, BELTUQASH_STRICT, 9), BELTUQASH_NOT_BELOW, s.set_flag, 4), "cost 400, strict: 15 after 4");
+    expect(is(run(&s.draft, 2, 9), BELTUQASH_MODE_OR_FUEL, 0, 0), "mode 2: 10");
 }
 
 static void try_sealed_flag(void)
 {
     struct flag_sheet s;
     draft_flag(&s, 400, true);
-    struct outcome cheap = run(&s.draft, PERMISSIVE, 9);
-    expect(is(cheap, DONE, 0, 6) && holds(cheap, FLAG, PARTIAL, 1) && holds(cheap, Q, 0, 0), "sealed, cost 400");
+    struct outcome cheap = run(&s.draft, BELTUQASH_PERMISSIVE, 9);
+    expect(is(cheap, BELTUQASH_DONE, 0, 6) && holds(cheap, FLAG, beltuqash_partial(0), 1) && holds(cheap, Q, 0, 0), "sealed, cost 400");
     draft_flag(&s, 600, true);
-    struct outcome dear = run(&s.draft, PERMISSIVE, 9);
-    expect(is(dear, DONE, 0, 6) && holds(dear, Q, PARTIAL, 1), "sealed, cost 600: q partial");
-    expect(is(run(&s.draft, STRICT, 9), CONTEXT_ABOVE, s.set_q, 6), "sealed, cost 600, strict: 15 after 6");
+    struct outcome dear = run(&s.draft, BELTUQASH_PERMISSIVE, 9);
+    expect(is(dear, BELTUQASH_DONE, 0, 6) && holds(dear, Q, beltuqash_partial(0), 1), "sealed, cost 600: q partial");
+    expect(is(run(&s.draft, BELTUQASH_STRICT, 9), BELTUQASH_NOT_BELOW, s.set_q, 6), "sealed, cost 600, strict: 15 after 6");
 }
 
 /* while x do (x := 0; y := 1); z := 1, with x at level 1: the context is kept in the loop and returns after it. */
@@ -213,10 +209,10 @@ static void try_context(void)
     unsigned body = sequence(&d, assignment(&d, x, constant(&d, 0)), assignment(&d, y, constant(&d, 1)));
     unsigned loop = while_do(&d, field(&d, x), body);
     sequence(&d, loop, assignment(&d, z, constant(&d, 1)));
-    struct outcome done = run(&d, STRICT, 9);
-    expect(is(done, DONE, 0, 5), "a while of one round and an assignment: 5 units");
+    struct outcome done = run(&d, BELTUQASH_STRICT, 9);
+    expect(is(done, BELTUQASH_DONE, 0, 5), "a while of one round and an assignment: 5 units");
     expect(holds(done, x, 1, 0) && holds(done, y, 1, 1) && holds(done, z, 0, 1), "marks in and after a while");
-    expect(is(run(&d, STRICT, 3), FUEL_USED_UP, loop, 3), "the while's second test has no unit left: 12");
+    expect(is(run(&d, BELTUQASH_STRICT, 3), BELTUQASH_FUEL_SPENT, loop, 3), "the while's second test has no unit left: 12");
 }
 
 /* Sheets. */
@@ -232,13 +228,13 @@ static uint64_t load_rows(unsigned levels, const uint16_t *rows)
 
 static void try_levels(void)
 {
-    expect(load_rows(3, (const uint16_t[]){7, 2, 4}) == LEVELS_WRONG, "rows 7, 2, 4: 3");
-    expect(load_rows(1, one_level) == DONE && load_rows(1, (const uint16_t[]){0}) == LEVELS_WRONG, "one level");
-    expect(load_rows(2, two_levels) == DONE && load_rows(4, diamond) == DONE, "two levels, the diamond");
-    expect(load_rows(2, (const uint16_t[]){3, 3}) == LEVELS_WRONG, "each at or below the other: 3");
-    expect(load_rows(2, (const uint16_t[]){7, 2}) == LEVELS_WRONG, "a bit at the count: 3");
-    expect(load_rows(3, (const uint16_t[]){5, 6, 4}) == LEVELS_WRONG, "no lowest level: 3");
-    expect(load_rows(5, (const uint16_t[]){31, 22, 28, 24, 16}) == LEVELS_WRONG, "not transitive: 3");
+    expect(load_rows(3, (const uint16_t[]){7, 2, 4}) == BELTUQASH_LEVELS_WRONG, "rows 7, 2, 4: 3");
+    expect(load_rows(1, one_level) == BELTUQASH_DONE && load_rows(1, (const uint16_t[]){0}) == BELTUQASH_LEVELS_WRONG, "one level");
+    expect(load_rows(2, two_levels) == BELTUQASH_DONE && load_rows(4, diamond) == BELTUQASH_DONE, "two levels, the diamond");
+    expect(load_rows(2, (const uint16_t[]){3, 3}) == BELTUQASH_LEVELS_WRONG, "each at or below the other: 3");
+    expect(load_rows(2, (const uint16_t[]){7, 2}) == BELTUQASH_LEVELS_WRONG, "a bit at the count: 3");
+    expect(load_rows(3, (const uint16_t[]){5, 6, 4}) == BELTUQASH_LEVELS_WRONG, "no lowest level: 3");
+    expect(load_rows(5, (const uint16_t[]){31, 22, 28, 24, 16}) == BELTUQASH_LEVELS_WRONG, "not transitive: 3");
 }
 
 /* f := not not .. f, so many nodes deep. */
@@ -269,12 +265,13 @@ static void try_limits(void)
 {
     static struct draft largest;
     draft_largest(&largest);
-    expect(load(&largest) == DONE, "16, 64, 256 and 1,024 entries are taken");
-    expect(load_one_more(0) == COUNT_OUTSIDE, "17 levels: 2");
-    expect(load_one_more(34) == COUNT_OUTSIDE, "65 fields: 2");
-    expect(load_one_more(548) == COUNT_OUTSIDE, "257 constants: 2");
-    expect(load_one_more(1574) == COUNT_OUTSIDE, "1,025 nodes: 2");
-    expect(load_nots(DEPTH) == DONE && load_nots(DEPTH + 1) == TOO_DEEP && load_nots(NODES) == TOO_DEEP, "depth");
+    expect(load(&largest) == BELTUQASH_DONE, "16, 64, 256 and 1,024 entries are taken");
+    expect(load_one_more(0) == BELTUQASH_COUNT_OUTSIDE, "17 levels: 2");
+    expect(load_one_more(34) == BELTUQASH_COUNT_OUTSIDE, "65 fields: 2");
+    expect(load_one_more(548) == BELTUQASH_COUNT_OUTSIDE, "257 constants: 2");
+    expect(load_one_more(1574) == BELTUQASH_COUNT_OUTSIDE, "1,025 nodes: 2");
+    expect(load_nots(BELTUQASH_MOST_DEPTH) == BELTUQASH_DONE, "depth 64 is taken");
+    expect(load_nots(BELTUQASH_MOST_DEPTH + 1) == BELTUQASH_TOO_DEEP && load_nots(BELTUQASH_MOST_NODES) == BELTUQASH_TOO_DEEP, "depth over 64: 7");
 }
 
 static bool at(uint64_t word, unsigned number, unsigned n)
@@ -295,15 +292,15 @@ static uint64_t load_with(unsigned n, unsigned byte, uint8_t value)
 
 static void try_nodes(void)
 {
-    expect(load_with(0, 0, FIELD) == DONE, "f := f + 1 is taken");
-    expect(at(load_with(1, 0, KINDS), NODE_UNKNOWN, 1), "kind 10: 19");
-    expect(at(load_with(2, 1, OPERATORS), NODE_UNKNOWN, 2), "operator 10: 19");
-    expect(at(load_with(3, 1, OPERATORS), NODE_UNUSED, 3), "an operator byte in an assignment: 20");
-    expect(at(load_with(2, 7, 1), NODE_UNUSED, 2), "an unused place: 20");
-    expect(at(load_with(0, 2, 1), NODE_RANGE, 0), "a field that is not there: 21");
-    expect(at(load_with(1, 3, 1), NODE_RANGE, 1), "a constant that is not there: 21");
-    expect(at(load_with(2, 4, 2), NODE_RANGE, 2), "its own child: 21");
-    expect(at(load_with(1, 0, SKIP), NODE_SORT, 2), "a command for an operand: 22");
+    expect(load_with(0, 0, FIELD) == BELTUQASH_DONE, "f := f + 1 is taken");
+    expect(at(load_with(1, 0, KINDS), BELTUQASH_NODE_UNKNOWN, 1), "kind 10: 19");
+    expect(at(load_with(2, 1, OPERATORS), BELTUQASH_NODE_UNKNOWN, 2), "operator 10: 19");
+    expect(at(load_with(3, 1, OPERATORS), BELTUQASH_NODE_UNUSED, 3), "an operator byte in an assignment: 20");
+    expect(at(load_with(2, 7, 1), BELTUQASH_NODE_UNUSED, 2), "an unused place: 20");
+    expect(at(load_with(0, 2, 1), BELTUQASH_NODE_RANGE, 0), "a field that is not there: 21");
+    expect(at(load_with(1, 3, 1), BELTUQASH_NODE_RANGE, 1), "a constant that is not there: 21");
+    expect(at(load_with(2, 4, 2), BELTUQASH_NODE_RANGE, 2), "its own child: 21");
+    expect(at(load_with(1, 0, SKIP), BELTUQASH_NODE_SORT, 2), "a command for an operand: 22");
 }
 
 /* Node 2 is an operator with every fault; they are put right one after another. */
@@ -316,33 +313,55 @@ static void try_order_of_faults(void)
     uint8_t *node = d.nodes[2];
     node[1] = OPERATORS;
     node[6] = 1;
-    expect(at(load(&d), NODE_UNKNOWN, 2), "19 before 20 in a node");
+    expect(at(load(&d), BELTUQASH_NODE_UNKNOWN, 2), "19 before 20 in a node");
     node[1] = OR;
-    expect(at(load(&d), NODE_UNUSED, 2), "20 before 21 in a node");
+    expect(at(load(&d), BELTUQASH_NODE_UNUSED, 2), "20 before 21 in a node");
     node[6] = 0;
-    expect(at(load(&d), NODE_RANGE, 2), "21 before 22 in a node");
+    expect(at(load(&d), BELTUQASH_NODE_RANGE, 2), "21 before 22 in a node");
     node[4] = 0;
     d.nodes[3][0] = KINDS;
-    expect(at(load(&d), NODE_SORT, 2), "22 in a node before 19 in the next");
+    expect(at(load(&d), BELTUQASH_NODE_SORT, 2), "22 in a node before 19 in the next");
 }
 
 /* The runner's example: q := q + 1 from 41 at level 1. The output has a byte to spare. */
+
+static const uint8_t example[] = {
+    2, 0, 3, 0, 2, 0, 1, 0, 0x71, 0, 0, 0, 0, 0, 0, 0, 1, 0, 1, 0, 0, 0, 4, 0, 0, 0, 0, 0,
+    0, 0, 0, 0, 1, 0, 0, 0, 0, 0, 0, 0, 2, 0, 1, 0, 0, 0, 0, 0, 6, 0, 0, 0, 2, 0, 0, 0,
+};
+
+/* A store of one field that says that it has so many. */
+static void store_example(uint8_t *store, unsigned count, int32_t value)
+{
+    beltuqash_write_count(store, count);
+    beltuqash_write_field(store, 0, 1, value);
+}
+
+static uint64_t run_example(size_t sheet_len, const uint8_t *store, size_t store_len, uint32_t fuel, uint8_t *out, size_t out_len)
+{
+    return c_run(example, sheet_len, store, store_len, BELTUQASH_PERMISSIVE, fuel, out, out_len);
+}
+
 static void try_example(void)
 {
-    static const uint8_t sheet[] = {
-        2, 0, 3, 0, 2, 0, 1, 0, 0x71, 0, 0, 0, 0, 0, 0, 0, 1, 0, 1, 0, 0, 0, 4, 0, 0, 0, 0, 0,
-        0, 0, 0, 0, 1, 0, 0, 0, 0, 0, 0, 0, 2, 0, 1, 0, 0, 0, 0, 0, 6, 0, 0, 0, 2, 0, 0, 0,
-    };
-    static const uint8_t store[] = {1, 0, 1, 41, 0, 0, 0}, two_fields[] = {2, 0, 1, 41, 0, 0, 0};
-    uint8_t out[8] = {9, 9, 9, 9, 9, 9, 9, 9};
-    expect(c_run(sheet, sizeof sheet - 1, store, 7, PERMISSIVE, 9, out, 8) == SHEET_LENGTH, "a cut sheet: 1");
-    expect(c_run(sheet, sizeof sheet, store, 6, PERMISSIVE, 9, out, 8) == STORE_SIZE, "a cut store: 8");
-    expect(c_run(sheet, sizeof sheet, two_fields, 7, PERMISSIVE, 9, out, 8) == STORE_SIZE, "another count: 8");
-    expect(c_run(sheet, sizeof sheet, store, 7, PERMISSIVE, 9, out, 6) == OUTPUT_SHORT, "a short output: 11");
-    expect(beltuqash_number(c_run(sheet, sizeof sheet, store, 7, PERMISSIVE, 0, out, 8)) == FUEL_USED_UP, "fuel 0: 12");
-    expect(memcmp(out, (const uint8_t[]){9, 9, 9, 9, 9, 9, 9, 9}, 8) == 0, "a refusal writes nothing");
-    expect(c_run(sheet, sizeof sheet, store, 7, PERMISSIVE, 9, out, 8) == (uint64_t)1 << 32, "the example: 1 unit");
-    expect(memcmp(out, (const uint8_t[]){1, 0, 1, 42, 0, 0, 0, 9}, 8) == 0, "the example: q = 42, the last byte stays");
+    enum { SHEET = sizeof example };
+    uint8_t store[BELTUQASH_LONGEST_STORE], two_fields[BELTUQASH_LONGEST_STORE];
+    uint8_t out[BELTUQASH_LONGEST_STORE], stays[BELTUQASH_LONGEST_STORE], right[BELTUQASH_LONGEST_STORE];
+    size_t whole = beltuqash_store_length(1);
+    memset(out, 9, sizeof out);
+    memset(stays, 9, sizeof stays);
+    memset(right, 9, sizeof right);
+    store_example(store, 1, 41);
+    store_example(two_fields, 2, 41);
+    store_example(right, 1, 42);
+    expect(run_example(SHEET - 1, store, whole, 9, out, whole + 1) == BELTUQASH_SHEET_LENGTH, "a cut sheet: 1");
+    expect(run_example(SHEET, store, whole - 1, 9, out, whole + 1) == BELTUQASH_STORE_MISFIT, "a cut store: 8");
+    expect(run_example(SHEET, two_fields, whole, 9, out, whole + 1) == BELTUQASH_STORE_MISFIT, "another count: 8");
+    expect(run_example(SHEET, store, whole, 9, out, whole - 1) == BELTUQASH_OUT_SHORT, "a short output: 11");
+    expect(beltuqash_number(run_example(SHEET, store, whole, 0, out, whole + 1)) == BELTUQASH_FUEL_SPENT, "fuel 0: 12");
+    expect(memcmp(out, stays, sizeof out) == 0, "a refusal writes nothing");
+    expect(run_example(SHEET, store, whole, 9, out, whole + 1) == (uint64_t)1 << 32, "the example: 1 unit");
+    expect(memcmp(out, right, sizeof out) == 0, "the example: q = 42, later bytes stay");
 }
 
 int main(void)

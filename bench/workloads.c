@@ -1,6 +1,5 @@
 /* The sheets that are measured, their runs and the load. */
 #include "workloads.h"
-#include "beltuqash.h"
 
 #include <stdio.h>
 #include <stdlib.h>
@@ -92,10 +91,10 @@ static void draft_meets(struct draft *d, int32_t rounds)
 }
 
 const struct workload workloads[WORKLOADS] = {
-    {"counting loop, a unit", draft_counting, 2, STRICT},
-    {"arithmetic and branches, a unit", draft_branching, 7, STRICT},
-    {"joins in 16 levels, a unit", draft_joins, 7, STRICT},
-    {"meets in 16 levels, a unit", draft_meets, 5, PERMISSIVE},
+    {"counting loop, a unit", draft_counting, 2, BELTUQASH_STRICT},
+    {"arithmetic and branches, a unit", draft_branching, 7, BELTUQASH_STRICT},
+    {"joins in 16 levels, a unit", draft_joins, 7, BELTUQASH_STRICT},
+    {"meets in 16 levels, a unit", draft_meets, 5, BELTUQASH_PERMISSIVE},
 };
 
 const char load_name[] = "load, 9,768 bytes";
@@ -105,12 +104,12 @@ const char load_name[] = "load, 9,768 bytes";
 static uint64_t run_to(run_call call, const struct job *job, uint8_t *out)
 {
     const struct bytes *sheet = &job->sheet, *store = &job->store;
-    return call(sheet->at, sheet->length, store->at, store->length, job->mode, job->fuel, out, STORE_MOST);
+    return call(sheet->at, sheet->length, store->at, store->length, job->mode, job->fuel, out, BELTUQASH_LONGEST_STORE);
 }
 
 uint64_t run(run_call call, const struct job *job)
 {
-    uint8_t out[STORE_MOST];
+    uint8_t out[BELTUQASH_LONGEST_STORE];
     return run_to(call, job, out);
 }
 
@@ -122,11 +121,11 @@ static void fail(const char *name, const char *what)
 
 static void compare_runs(const char *name, const struct job *job)
 {
-    uint8_t by_archive[STORE_MOST] = {0}, by_c[STORE_MOST] = {0};
+    uint8_t by_archive[BELTUQASH_LONGEST_STORE] = {0}, by_c[BELTUQASH_LONGEST_STORE] = {0};
     uint64_t word = run_to(beltuqash_run, job, by_archive);
-    if (word != run_to(c_run, job, by_c) || memcmp(by_archive, by_c, STORE_MOST) != 0)
+    if (word != run_to(c_run, job, by_c) || memcmp(by_archive, by_c, BELTUQASH_LONGEST_STORE) != 0)
         fail(name, "archive and C differ");
-    if (beltuqash_number(word) != DONE || beltuqash_units(word) != job->units)
+    if (beltuqash_number(word) != BELTUQASH_DONE || beltuqash_units(word) != job->units)
         fail(name, "the run does not finish with the units that it should spend");
 }
 
@@ -148,8 +147,8 @@ void prepare_load(struct bytes *sheet)
     struct draft draft;
     draft_largest(&draft);
     sheet_of(&draft, sheet);
-    if (sheet->length != SHEET_MOST)
+    if (sheet->length != BELTUQASH_LONGEST_SHEET)
         fail("load", "the largest sheet has another length");
-    if (beltuqash_load(sheet->at, sheet->length) != DONE || c_load(sheet->at, sheet->length) != DONE)
+    if (beltuqash_load(sheet->at, sheet->length) != BELTUQASH_DONE || c_load(sheet->at, sheet->length) != BELTUQASH_DONE)
         fail("load", "the largest sheet is not taken");
 }

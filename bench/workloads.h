@@ -11,7 +11,7 @@ struct workload {
     const char *name;
     void (*draft)(struct draft *, int32_t rounds);
     uint32_t units_a_round;
-    enum mode mode;
+    enum beltuqash_mode mode;
 };
 
 enum { WORKLOADS = 4 };
