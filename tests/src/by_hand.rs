@@ -2,7 +2,9 @@
 //! numbered as one reads, children before their parent, and each constant has an
 //! index of its own.
 
+use crate::model::marks::PARTIAL;
 use crate::model::sheet::Node;
+use crate::model::store::counted;
 
 /// A node with its children.
 pub struct Tree {
@@ -123,15 +125,10 @@ pub fn whole(level: u8, value: i32) -> (u8, i32) {
 
 /// Partial at this level.
 pub fn partial(level: u8, value: i32) -> (u8, i32) {
-    (level + 16, value)
+    (level + PARTIAL, value)
 }
 
 /// A store's bytes.
 pub fn store(fields: &[(u8, i32)]) -> Vec<u8> {
-    let mut bytes = (fields.len() as u16).to_le_bytes().to_vec();
-    for (mark, value) in fields {
-        bytes.push(*mark);
-        bytes.extend(value.to_le_bytes());
-    }
-    bytes
+    counted(fields.iter().copied())
 }

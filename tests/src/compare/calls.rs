@@ -14,6 +14,9 @@ pub trait Compared: Generated + Clone {
     /// What such a call is called where it can be replayed.
     const NAME: &'static str;
 
+    /// The bytes of a field's entry in what such a call writes.
+    const ENTRY_BYTES: usize;
+
     /// How often each number came back, and what else is counted.
     type Histogram: Default;
 

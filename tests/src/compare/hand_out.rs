@@ -4,7 +4,7 @@ use super::calls::Compared;
 use super::partial_asked::PartialAsked;
 use super::{hex, Times};
 use crate::model::hand_out::hand_out_watched;
-use crate::model::hand_out::rules::DOCUMENT;
+use crate::model::hand_out::rules::{ANSWER_ENTRY_BYTES, DOCUMENT};
 use crate::model::{hand_out, HandOut, Outcome};
 use std::fmt;
 
@@ -20,6 +20,8 @@ pub const NUMBERS: [usize; 16] = [0, 1, 2, 3, 4, 19, 20, 21, 22, 6, 7, 8, 9, 17,
 
 impl Compared for HandOut {
     const NAME: &'static str = "hand-out";
+
+    const ENTRY_BYTES: usize = ANSWER_ENTRY_BYTES;
 
     type Histogram = Histogram;
 

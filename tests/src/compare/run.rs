@@ -5,6 +5,7 @@ use super::divisions::{Divided, Divisions};
 use super::{hex, Times};
 use crate::model::rules::DOCUMENT;
 use crate::model::run::run_watched;
+use crate::model::store::STORE_ENTRY_BYTES;
 use crate::model::{run, Call, Outcome};
 use std::fmt;
 
@@ -36,6 +37,8 @@ pub const NUMBERS: [usize; 20] = [
 
 impl Compared for Call {
     const NAME: &'static str = "call";
+
+    const ENTRY_BYTES: usize = STORE_ENTRY_BYTES;
 
     type Histogram = Histogram;
 

@@ -10,10 +10,15 @@ pub struct Mark {
 }
 
 /// What a mark byte has more when it is partial.
-const PARTIAL: u8 = 16;
+pub const PARTIAL: u8 = 16;
 
 /// The highest mark byte.
-const MOST_MARK: u8 = 31;
+pub const MOST_MARK: u8 = 2 * PARTIAL - 1;
+
+/// The level of a mark byte.
+pub fn level_of(byte: u8) -> usize {
+    usize::from(byte % PARTIAL)
+}
 
 impl Mark {
     pub fn whole(level: usize) -> Mark {
@@ -33,7 +38,7 @@ impl Mark {
     /// The mark is the level, plus 16 when partial; none is above 31.
     pub fn read(byte: u8) -> Option<Mark> {
         (byte <= MOST_MARK).then(|| Mark {
-            level: usize::from(byte % PARTIAL),
+            level: level_of(byte),
             partial: byte >= PARTIAL,
         })
     }

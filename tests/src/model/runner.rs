@@ -5,7 +5,7 @@ use super::answer::{number, Answer};
 use super::marks::Mark;
 use super::run::{run, Call, Outcome};
 use super::sheet::{Name, Sheet};
-use super::store::{entries, ENTRY_BYTES};
+use super::store::entries;
 
 /// What the program prints for a file.
 pub fn prints(file: &[u8]) -> String {
@@ -30,7 +30,8 @@ fn asked(file: &[u8]) -> Option<Call> {
         store: if whole { rest.to_vec() } else { vec![] },
         mode: u32::from(*mode),
         fuel: u32::from_le_bytes(*fuel),
-        output: vec![0; 2 + ENTRY_BYTES * 64],
+        // As long as a store that fits.
+        output: vec![0; rest.len()],
     })
 }
 

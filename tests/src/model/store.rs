@@ -17,12 +17,28 @@ pub struct Store {
     pub fields: Vec<Marked>,
 }
 
-/// The bytes of a field's mark and value.
-pub const ENTRY_BYTES: usize = 5;
+/// The bytes of a field in a store: its mark and value.
+pub const STORE_ENTRY_BYTES: usize = 5;
 
-/// The length of a store for this sheet: 2 + 5 per field.
+/// The length of a store of so many fields.
+pub fn length_of(fields: usize) -> usize {
+    COUNT_BYTES + STORE_ENTRY_BYTES * fields
+}
+
+/// The length of a store for this sheet.
 pub fn length(sheet: &Sheet) -> usize {
-    COUNT_BYTES + ENTRY_BYTES * sheet.fields.len()
+    length_of(sheet.fields.len())
+}
+
+/// Where a field's mark stands: behind the fields before it.
+pub fn mark_at(field: usize) -> usize {
+    length_of(field)
+}
+
+/// The marks of a store of any length.
+pub fn marks_mut(store: &mut [u8]) -> impl Iterator<Item = &mut u8> {
+    let marks = store.iter_mut().skip(COUNT_BYTES);
+    marks.step_by(STORE_ENTRY_BYTES)
 }
 
 /// The count that a store or a request begins with, if it is long enough.
@@ -31,13 +47,28 @@ pub fn count(bytes: &[u8]) -> Option<usize> {
     Some(usize::from(u16::from_le_bytes(*count)))
 }
 
-/// The entries that stand whole behind the count: mark byte and value.
+/// The fields of a store that stand whole behind the count: mark byte and value.
 pub fn entries(bytes: &[u8]) -> impl Iterator<Item = (u8, i32)> + '_ {
+    entries_of(STORE_ENTRY_BYTES, bytes)
+}
+
+/// The entries of this size that stand whole behind the count: a byte and a value.
+pub fn entries_of(size: usize, bytes: &[u8]) -> impl Iterator<Item = (u8, i32)> + '_ {
     let entries = bytes.get(COUNT_BYTES..).unwrap_or(&[]);
-    entries.chunks_exact(ENTRY_BYTES).map(|entry| {
-        let value = entry[1..].try_into().expect("four bytes");
-        (entry[0], i32::from_le_bytes(value))
+    entries.chunks_exact(size).map(|entry| {
+        let value = entry[1..].first_chunk().expect("four bytes");
+        (entry[0], i32::from_le_bytes(*value))
     })
+}
+
+/// A count, then for each entry a byte and a value.
+pub fn counted(entries: impl ExactSizeIterator<Item = (u8, i32)>) -> Vec<u8> {
+    let mut bytes = (entries.len() as u16).to_le_bytes().to_vec();
+    for (byte, value) in entries {
+        bytes.push(byte);
+        bytes.extend(value.to_le_bytes());
+    }
+    bytes
 }
 
 impl Store {
@@ -54,12 +85,9 @@ impl Store {
     }
 
     pub fn bytes(&self) -> Vec<u8> {
-        let mut bytes = (self.fields.len() as u16).to_le_bytes().to_vec();
-        for Marked { value, mark } in &self.fields {
+        counted(self.fields.iter().map(|Marked { value, mark }| {
             let value = i32::try_from(*value).expect("no value is out of range");
-            bytes.push(mark.byte());
-            bytes.extend(value.to_le_bytes());
-        }
-        bytes
+            (mark.byte(), value)
+        }))
     }
 }

@@ -4,7 +4,7 @@
 use crate::compare::calls::{compare, Compared};
 use crate::compare::effect::Effect;
 use crate::model::number::*;
-use crate::model::store::ENTRY_BYTES;
+use crate::model::sheet::COUNT_BYTES;
 use crate::model::{load, Answer, Outcome};
 use crate::wrong::judges::faults::TOLD;
 use std::ops::Range;
@@ -120,10 +120,15 @@ impl<C: Compared> Wrong<C> {
     }
 }
 
-/// Where the entries of a store or an answer stand.
-pub fn entries(bytes: &[u8]) -> impl Iterator<Item = Range<usize>> {
-    let starts = (2..bytes.len()).step_by(ENTRY_BYTES);
-    starts.map(|start| start..start + ENTRY_BYTES)
+/// Where the entries stand in what a call has written: in a store or an answer.
+pub fn entries<C: Compared>(written: &[u8]) -> impl Iterator<Item = Range<usize>> {
+    let starts = (COUNT_BYTES..written.len()).step_by(C::ENTRY_BYTES);
+    starts.map(|start| start..start + C::ENTRY_BYTES)
+}
+
+/// Where an entry's value stands.
+pub fn value_of(entry: Range<usize>) -> Range<usize> {
+    entry.start + 1..entry.start + 1 + size_of::<i32>()
 }
 
 /// As much of these bytes as the output takes.
@@ -137,16 +142,17 @@ pub fn about_writes<C: Compared>() -> Vec<Wrong<C>> {
     let on_success: [Named<Writing<C>>; 8] = [
         ("nothing written", |_, written| written.clear()),
         ("the count not written", |call, written| {
-            written[..2].copy_from_slice(&call.output_before()[..2]);
+            written[..COUNT_BYTES].copy_from_slice(&call.output_before()[..COUNT_BYTES]);
         }),
         ("the last byte not written", |_, written| {
             written.pop();
         }),
         ("the last field not written", |_, written| {
-            written.truncate(written.len().saturating_sub(ENTRY_BYTES).max(2));
+            let shorter = written.len().saturating_sub(C::ENTRY_BYTES);
+            written.truncate(shorter.max(COUNT_BYTES));
         }),
         ("only 32 fields written", |_, written| {
-            written.truncate(2 + 32 * ENTRY_BYTES);
+            written.truncate(COUNT_BYTES + 32 * C::ENTRY_BYTES);
         }),
         ("the rest of the output cleared", |call, written| {
             written.resize(call.output_before().len(), 0);
@@ -155,7 +161,7 @@ pub fn about_writes<C: Compared>() -> Vec<Wrong<C>> {
             written.push(0)
         }),
         ("values in big-endian", |_, written| {
-            entries(written).for_each(|entry| written[entry][1..].reverse());
+            entries::<C>(written).for_each(|entry| written[value_of(entry)].reverse());
         }),
     ];
     let on_refusal: [Named<Spoiling<C>>; 2] = [

@@ -6,8 +6,8 @@ use super::{hand_outs, runners};
 use crate::by_hand::{store, whole, PERMISSIVE};
 use crate::compare::calls::Compared;
 use crate::compare::effect::Effect;
-use crate::model::hand_out::request;
 use crate::model::hand_out::rules::length;
+use crate::model::hand_out::{answered, request};
 use crate::model::marks::Mark;
 use crate::model::store::entries;
 use crate::model::{Call, HandOut};
@@ -94,7 +94,7 @@ impl Lesson {
             output: vec![0; length(1)],
         };
         let handed = effect(hand_outs::all(), self.fault, &call);
-        let entry = entries(handed.output()).next();
+        let entry = answered(handed.output()).next();
         match (handed.word, entry) {
             (0, Some((1, value))) => value.to_string(),
             (0, _) => "closed".into(),

@@ -7,6 +7,7 @@ use beltuqash_tests::compare::load::Judgement;
 use beltuqash_tests::model::{Call, HandOut};
 use std::cell::{Cell, RefCell};
 use std::io::{self, BufReader, Read, Write};
+use std::path::PathBuf;
 use std::process::{Child, ChildStdin, ChildStdout, Command, ExitStatus, Stdio};
 use std::{env, fmt, process};
 
@@ -39,7 +40,7 @@ impl Archive {
     /// Starts the shop that BELTUQASH_SHOP names, or `target/shop` of the repository.
     pub fn open() -> Archive {
         let made = concat!(env!("CARGO_MANIFEST_DIR"), "/../target/shop");
-        let path = env::var_os("BELTUQASH_SHOP").unwrap_or(made.into());
+        let path = env::var_os("BELTUQASH_SHOP").map_or(made.into(), PathBuf::from);
         let mut command = Command::new(&path);
         command.stdin(Stdio::piped()).stdout(Stdio::piped());
         let mut shop = command.spawn().unwrap_or_else(|error| {

@@ -4,10 +4,11 @@
 use crate::parts::{name, node, operator, plain, with_nodes, SKIP};
 use crate::samples::{flag, name_twice, runners, sealed_flag};
 use crate::trials::{chain, last_unused, nested, with_rows};
-use beltuqash_tests::by_hand::{store, DIVIDE, LESS, PLUS, REMAINDER};
+use beltuqash_tests::by_hand::{partial, store, whole, DIVIDE, LESS, PLUS, REMAINDER};
 use beltuqash_tests::generate::write::bytes;
 use beltuqash_tests::model::levels::Levels;
-use beltuqash_tests::model::sheet::Sheet;
+use beltuqash_tests::model::marks::MOST_MARK;
+use beltuqash_tests::model::sheet::{Sheet, COUNT_BYTES};
 
 pub struct Case {
     pub name: String,
@@ -165,7 +166,7 @@ fn shapes() -> Vec<Case> {
         idle(
             "several-fields",
             &several,
-            &[(0, 1), (1, -2), (17, 30)],
+            &[whole(0, 1), whole(1, -2), partial(1, 30)],
             "done 1\nabcdefgh 0 whole 1\nz 1 whole -2\na_1 1 partial 30\n",
         ),
         idle(
@@ -177,13 +178,18 @@ fn shapes() -> Vec<Case> {
         idle(
             "levels-of-two-digits",
             &sixteen_levels(&["a", "b", "c", "d"]),
-            &[(9, 0), (10, 10), (15, 100), (31, -100)],
+            &[
+                whole(9, 0),
+                whole(10, 10),
+                whole(15, 100),
+                partial(15, -100),
+            ],
             "done 1\na 9 whole 0\nb 10 whole 10\nc 15 whole 100\nd 15 partial -100\n",
         ),
         idle(
             "longest-text",
             &sixteen_levels(&names),
-            &[(31, LEAST); 64],
+            &[partial(15, LEAST); 64],
             &format!("done 1\n{longest}"),
         ),
     ]
@@ -341,53 +347,62 @@ fn stores() -> Vec<Case> {
     let right = store(&[(0, 5)]);
     let longer = [&right[..], &[0]].concat();
     let two = store(&[(0, 5), (0, 6)]);
-    let count_2 = [&[2, 0], &right[2..]].concat();
-    let count_257 = [&[1, 1], &right[2..]].concat();
+    let count_2 = [&[2, 0], &right[COUNT_BYTES..]].concat();
+    let count_257 = [&[1, 1], &right[COUNT_BYTES..]].concat();
+    let whole = right.len();
+    let cut = &right[..whole - 1];
     vec![
-        with("store-right", 7, &right, "done 1\nq 0 whole 5\n"),
+        with("store-right", whole, &right, "done 1\nq 0 whole 5\n"),
         with("store-none-8", 0, &[], "refused 8 0 0\n"),
-        with("store-cut-8", 7, &right[..6], "refused 8 0 0\n"),
-        with("store-missing-8", 7, &[], "refused 8 0 0\n"),
+        with("store-cut-8", whole, cut, "refused 8 0 0\n"),
+        with("store-missing-8", whole, &[], "refused 8 0 0\n"),
         with(
             "store-cut-though-it-would-fit-8",
-            8,
+            whole + 1,
             &right,
             "refused 8 0 0\n",
         ),
-        with("store-followed-8", 7, &longer, "refused 8 0 0\n"),
+        with("store-followed-8", whole, &longer, "refused 8 0 0\n"),
         with(
             "store-followed-though-it-would-fit-8",
-            6,
+            whole - 1,
             &right,
             "refused 8 0 0\n",
         ),
         with("store-length-0-followed-8", 0, &right, "refused 8 0 0\n"),
-        with("store-length-by-256-8", 263, &right, "refused 8 0 0\n"),
-        with("store-of-two-fields-8", 12, &two, "refused 8 0 0\n"),
-        with("store-byte-more-8", 8, &longer, "refused 8 0 0\n"),
-        with("store-byte-less-8", 6, &right[..6], "refused 8 0 0\n"),
-        with("store-count-2-8", 7, &count_2, "refused 8 0 0\n"),
-        with("store-count-257-8", 7, &count_257, "refused 8 0 0\n"),
+        with(
+            "store-length-by-256-8",
+            whole + 256,
+            &right,
+            "refused 8 0 0\n",
+        ),
+        with("store-of-two-fields-8", two.len(), &two, "refused 8 0 0\n"),
+        with(
+            "store-byte-more-8",
+            longer.len(),
+            &longer,
+            "refused 8 0 0\n",
+        ),
+        with("store-byte-less-8", cut.len(), cut, "refused 8 0 0\n"),
+        with("store-count-2-8", whole, &count_2, "refused 8 0 0\n"),
+        with("store-count-257-8", whole, &count_257, "refused 8 0 0\n"),
     ]
 }
 
 /// Number 9, and marks that a run takes.
 fn marks() -> Vec<Case> {
-    let marked = |name, mode, mark, text| {
+    let marked = |name, mode, field, text| {
         let sheet = bytes(&plain());
-        case(name, file(mode, 9, &sheet, &store(&[(mark, 5)])), text)
+        case(name, file(mode, 9, &sheet, &store(&[field])), text)
     };
+    let refused = "refused 9 0 0\n";
+    let done = "done 1\nq 1 partial 5\n";
     vec![
-        marked("mark-32-9", PERMISSIVE, 32, "refused 9 0 0\n"),
-        marked("mark-level-2-9", PERMISSIVE, 2, "refused 9 0 0\n"),
-        marked("mark-partial-level-2-9", PERMISSIVE, 18, "refused 9 0 0\n"),
-        marked("mark-partial-strict-9", STRICT, 16, "refused 9 0 0\n"),
-        marked(
-            "mark-partial-permissive",
-            PERMISSIVE,
-            17,
-            "done 1\nq 1 partial 5\n",
-        ),
+        marked("mark-32-9", PERMISSIVE, (MOST_MARK + 1, 5), refused),
+        marked("mark-level-2-9", PERMISSIVE, whole(2, 5), refused),
+        marked("mark-partial-level-2-9", PERMISSIVE, partial(2, 5), refused),
+        marked("mark-partial-strict-9", STRICT, partial(0, 5), refused),
+        marked("mark-partial-permissive", PERMISSIVE, partial(1, 5), done),
     ]
 }
 
@@ -441,14 +456,14 @@ fn stops() -> Vec<Case> {
             "if-partial-16",
             PERMISSIVE,
             &closed_if(),
-            &[(16, 1), (0, 3)],
+            &[partial(0, 1), whole(0, 3)],
             "refused 16 4 1\n",
         ),
         in_context(
             "while-partial-16",
             PERMISSIVE,
             &counting(),
-            &[(16, 1)],
+            &[partial(0, 1)],
             "refused 16 7 1\n",
         ),
     ]
@@ -457,7 +472,9 @@ fn stops() -> Vec<Case> {
 /// Document 01's order of checks: a cut or followed store is told in 8's place.
 fn order() -> Vec<Case> {
     let right = store(&[(0, 5)]);
-    let wrong_mark = store(&[(32, 5)]);
+    let wrong_mark = store(&[(MOST_MARK + 1, 5)]);
+    let whole = right.len();
+    let cut = &right[..whole - 1];
     let sheet = bytes(&plain());
     let mut cases = vec![
         case(
@@ -467,22 +484,22 @@ fn order() -> Vec<Case> {
         ),
         case(
             "order-10-before-a-cut-store",
-            file_saying(2, 9, &sheet, 7, &right[..6]),
+            file_saying(2, 9, &sheet, whole, cut),
             "refused 10 0 0\n",
         ),
         case(
             "order-10-before-a-followed-store",
-            file_saying(STRICT, 1_000_001, &sheet, 6, &right),
+            file_saying(STRICT, 1_000_001, &sheet, whole - 1, &right),
             "refused 10 0 0\n",
         ),
         case(
             "order-8-before-9",
-            file_saying(STRICT, 9, &sheet, 8, &wrong_mark),
+            file_saying(STRICT, 9, &sheet, whole + 1, &wrong_mark),
             "refused 8 0 0\n",
         ),
         case(
             "order-8-before-12",
-            file_saying(STRICT, 0, &sheet, 7, &right[..6]),
+            file_saying(STRICT, 0, &sheet, whole, cut),
             "refused 8 0 0\n",
         ),
         case(
@@ -493,7 +510,7 @@ fn order() -> Vec<Case> {
     ];
     for (name, sheet, text) in wrong_sheets() {
         let name = format!("order-{name}-before-a-cut-store");
-        let file = file_saying(STRICT, 9, &sheet, 7, &right[..6]);
+        let file = file_saying(STRICT, 9, &sheet, whole, cut);
         cases.push(case(&name, file, text));
     }
     cases

@@ -4,10 +4,10 @@
 
 pub mod rules;
 
-use self::rules::{Rules, DOCUMENT};
+use self::rules::{Rules, ANSWER_ENTRY_BYTES, DOCUMENT};
 use super::answer::number::{DONE, MARK, OUTPUT, PARTIAL_ASKED, REQUEST, STORE};
 use super::sheet::{Sheet, COUNT_BYTES};
-use super::store::{count, entries, Marked, Store};
+use super::store::{count, counted, entries, entries_of, Marked, Store};
 use super::{judged, Answer, Outcome};
 
 /// A call of hand-out.
@@ -35,6 +35,16 @@ pub fn asked(request: &[u8]) -> impl Iterator<Item = usize> + '_ {
     let numbers = request.get(COUNT_BYTES..).unwrap_or(&[]);
     let number = |bytes: &[u8]| usize::from(u16::from_le_bytes([bytes[0], bytes[1]]));
     numbers.chunks_exact(NUMBER_BYTES).map(number)
+}
+
+/// An answer of these entries: whether the field is shown, and the value.
+pub fn answer(entries: &[(u8, i32)]) -> Vec<u8> {
+    counted(entries.iter().copied())
+}
+
+/// The entries of an answer.
+pub fn answered(answer: &[u8]) -> impl Iterator<Item = (u8, i32)> + '_ {
+    entries_of(ANSWER_ENTRY_BYTES, answer)
 }
 
 /// Hand-out by the document's rules.
@@ -100,8 +110,7 @@ impl Asked {
         levels.at_or_below(field.mark.level, self.reader)
     }
 
-    /// Row 18, or the answer: the count, then per asked field 5 bytes. Units are
-    /// 0 for hand-out.
+    /// Row 18, or the answer. Units are 0 for hand-out.
     fn outcome(&self, rules: &Rules) -> Outcome {
         if let Some(position) = (rules.refused_position)(self) {
             return Outcome::refused(Answer {
@@ -109,15 +118,13 @@ impl Asked {
                 ..Answer::plain(PARTIAL_ASKED)
             });
         }
-        let mut written = (self.fields.len() as u16).to_le_bytes().to_vec();
-        for field in self.marked() {
+        let entries = self.marked().map(|field| {
             let (flag, value) = (rules.entry)(&self.sheet.levels, self.reader, field);
-            written.push(flag);
-            written.extend((value as i32).to_le_bytes());
-        }
+            (flag, value as i32)
+        });
         Outcome {
             answer: Answer::plain(DONE),
-            written,
+            written: answer(&entries.collect::<Vec<_>>()),
         }
     }
 }

@@ -6,7 +6,7 @@ use crate::model::levels::Levels;
 use crate::model::rules as run;
 use crate::model::run::Mode;
 use crate::model::sheet::{Sheet, COUNT_BYTES};
-use crate::model::store::{Marked, ENTRY_BYTES};
+use crate::model::store::Marked;
 
 /// What a hand-out goes by.
 #[derive(Clone, Copy)]
@@ -62,9 +62,12 @@ fn field_is_known(sheet: &Sheet, field: usize) -> bool {
     field < sheet.fields.len()
 }
 
-/// The length of an answer: 2 + 5 per asked field.
+/// The bytes of an asked field in an answer: whether it is shown, and the value.
+pub const ANSWER_ENTRY_BYTES: usize = 5;
+
+/// The length of an answer for so many asked fields.
 pub fn length(count: usize) -> usize {
-    COUNT_BYTES + ENTRY_BYTES * count
+    COUNT_BYTES + ANSWER_ENTRY_BYTES * count
 }
 
 /// Row 11: output shorter than the answer.

@@ -25,7 +25,7 @@ fn gives(number: u8, call: &Call) {
 fn success_writes_exactly_the_store() {
     for longer in [0, 1, 5, 300] {
         let mut call = quiet();
-        call.output.resize(17 + longer, 9);
+        call.output.resize(length_of(3) + longer, 9);
         let Outcome { answer, written } = run(&call);
         assert_eq!(answer.word(), 1 << 32);
         assert_eq!(written, call.store);
@@ -50,7 +50,8 @@ fn modes_and_fuels() {
 
 #[test]
 fn store_lengths_and_counts() {
-    for length in (0..17).chain([18, 22, 65_536 + 17]) {
+    let right = length_of(3);
+    for length in (0..right).chain([right + 1, length_of(4), 65_536 + right]) {
         let mut call = quiet();
         call.store.resize(length, 0);
         call.output = vec![0; 70_000];
@@ -73,12 +74,11 @@ fn marks() {
     for field in 0..3 {
         let with = |mark, mode| {
             let mut call = Call { mode, ..quiet() };
-            call.store[2 + 5 * field] = mark;
+            call.store[mark_at(field)] = mark;
             call
         };
         for mark in 0..=255 {
-            let known = mark % 16 < 4 && mark < 32;
-            let number = if known { DONE } else { MARK };
+            let number = if of_diamond(mark) { DONE } else { MARK };
             gives(number, &with(mark, PERMISSIVE));
             let number = if mark < 4 { DONE } else { MARK };
             gives(number, &with(mark, STRICT));
@@ -88,7 +88,7 @@ fn marks() {
 
 #[test]
 fn output_lengths() {
-    for length in 0..17 {
+    for length in 0..length_of(3) {
         let output = vec![9; length];
         gives(OUTPUT, &Call { output, ..quiet() });
     }
@@ -101,7 +101,7 @@ fn the_first_failing_row_in_the_order_is_told() {
     refused(&call, FUEL_USED_UP, 0, 0);
     call.output.pop();
     gives(OUTPUT, &call);
-    call.store[2] = 16;
+    call.store[mark_at(0)] = PARTIAL;
     gives(MARK, &call);
     call.store.push(0);
     gives(STORE, &call);

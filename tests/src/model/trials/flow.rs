@@ -4,7 +4,8 @@
 use super::trees::*;
 use super::*;
 use crate::model::agree::stores_agree;
-use crate::model::hand_out::request;
+use crate::model::hand_out::rules::length;
+use crate::model::hand_out::{answer, request};
 use crate::model::store::Store;
 
 /// flag := 0; q := 0; if cost < 500 then flag := 1 else skip; if `last` then
@@ -77,7 +78,7 @@ fn asked_for(call: &Call, reader: u32, fields: &[u16]) -> Outcome {
         store: run(call).written,
         reader,
         request: request(&fields),
-        output: vec![0; 2 + 5 * fields.len()],
+        output: vec![0; length(fields.len())],
     })
 }
 
@@ -86,7 +87,7 @@ fn a_request_for_q_after_the_flag_sheet_with_a_seal() {
     let sheet = sealed_flag_sheet();
     let asked_for_q = |cost| asked_for(&at_cost(&sheet, cost, PERMISSIVE, 9), 0, &[Q]);
     assert_eq!(asked_for_q(400).answer, Answer::plain(DONE));
-    assert_eq!(asked_for_q(400).written, [1, 0, 1, 0, 0, 0, 0]);
+    assert_eq!(asked_for_q(400).written, answer(&[(1, 0)]));
     assert_eq!(asked_for_q(600).answer, Answer::plain(PARTIAL_ASKED));
 }
 
@@ -104,7 +105,7 @@ fn a_field_left_partial_is_withheld_from_readers_below_it() {
     done(&at(400), 3, &[whole(0, 7), partial(1, 1), whole(2, 400)]);
     done(&at(600), 3, &[whole(0, 7), whole(1, 0), whole(2, 600)]);
     let alike = asked_for(&at(400), 0, &[0, 1, 2]);
-    assert_eq!(alike.written, store(&[(1, 7), (0, 0), (0, 0)]));
+    assert_eq!(alike.written, answer(&[(1, 7), (0, 0), (0, 0)]));
     assert_eq!(alike, asked_for(&at(600), 0, &[0, 1, 2]));
     let refused = Answer {
         place: 1,
@@ -113,7 +114,7 @@ fn a_field_left_partial_is_withheld_from_readers_below_it() {
     for (reader, cost) in [(1, (0, 0)), (2, (1, 600))] {
         assert_eq!(asked_for(&at(400), reader, &[0, 1, 2]).answer, refused);
         let told = asked_for(&at(600), reader, &[0, 1, 2]).written;
-        assert_eq!(told, store(&[(1, 7), (1, 0), cost]));
+        assert_eq!(told, answer(&[(1, 7), (1, 0), cost]));
     }
 }
 

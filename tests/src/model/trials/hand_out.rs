@@ -3,7 +3,8 @@
 
 use super::trees::*;
 use super::*;
-use crate::model::hand_out::request;
+use crate::model::hand_out::rules::length;
+use crate::model::hand_out::{answer, request};
 
 /// The diamond and eight fields: fields 0 to 3 whole at each level, fields 4 to 7
 /// partial at each.
@@ -23,16 +24,16 @@ fn quiet(reader: u32, fields: &[usize]) -> HandOut {
         store: store(&marked),
         reader,
         request: request(fields),
-        output: vec![9; 2 + 5 * fields.len()],
+        output: vec![9; length(fields.len())],
     }
 }
 
 /// The flags and values that are answered.
 #[track_caller]
 fn answers(call: &HandOut, fields: &[(u8, i32)]) {
-    let Outcome { answer, written } = hand_out(call);
-    assert_eq!(answer, Answer::plain(DONE));
-    assert_eq!(written, store(fields));
+    let outcome = hand_out(call);
+    assert_eq!(outcome.answer, Answer::plain(DONE));
+    assert_eq!(outcome.written, answer(fields));
 }
 
 #[track_caller]
@@ -172,8 +173,8 @@ fn request_sizes_counts_and_field_numbers() {
 
 #[test]
 fn output_lengths() {
-    for length in 0..12 {
-        let output = vec![9; length];
+    for short in 0..length(2) {
+        let output = vec![9; short];
         let call = quiet(0, &[0, 1]);
         gives(OUTPUT, 0, &HandOut { output, ..call });
     }
@@ -186,9 +187,8 @@ fn output_lengths() {
 fn any_mark_it_knows() {
     for mark in 0..=255 {
         let mut call = quiet(0, &[1]);
-        call.store[2] = mark;
-        let known = mark % 16 < 4 && mark < 32;
-        gives(if known { DONE } else { MARK }, 0, &call);
+        call.store[mark_at(0)] = mark;
+        gives(if of_diamond(mark) { DONE } else { MARK }, 0, &call);
     }
 }
 
@@ -213,7 +213,7 @@ fn the_first_failing_row_in_the_order_is_told() {
     gives(OUTPUT, 0, &call);
     call.reader = 4;
     gives(REQUEST, 0, &call);
-    call.store[2] = 32;
+    call.store[mark_at(0)] = MOST_MARK + 1;
     gives(MARK, 0, &call);
     call.store.push(0);
     gives(STORE, 0, &call);

@@ -2,7 +2,9 @@
 
 use super::{Call, Outcome, Parts};
 pub use crate::by_hand::*;
+pub use crate::model::marks::{MOST_MARK, PARTIAL};
 use crate::model::run;
+pub use crate::model::store::{length_of, mark_at};
 
 impl Parts {
     /// A sheet of these levels, fields f0, f1 and so on, and this command.
@@ -31,6 +33,11 @@ pub fn call(sheet: &Parts, fields: &[(u8, i32)], mode: u32, fuel: u32) -> Call {
         mode,
         fuel,
     }
+}
+
+/// Whether this is the mark of one of the diamond's levels, whole or partial.
+pub fn of_diamond(mark: u8) -> bool {
+    (0..4).any(|level| mark == level || mark == level + PARTIAL)
 }
 
 /// The call ends after these units with these fields.

@@ -5,11 +5,12 @@ use crate::compare::effect::GUARD;
 use crate::model::hand_out::rules::{length, DOCUMENT, MOST_ASKED};
 use crate::model::hand_out::{asked, request, NUMBER_BYTES};
 use crate::model::levels::Levels;
+use crate::model::marks::{level_of, Mark, MOST_MARK};
 use crate::model::number::{DONE, MARK, OUTPUT, PARTIAL_ASKED, REQUEST};
 use crate::model::rules as run;
 use crate::model::run::Mode;
 use crate::model::sheet::{Sheet, COUNT_BYTES};
-use crate::model::store::{self, count, entries, ENTRY_BYTES};
+use crate::model::store::{self, count, entries, mark_at, marks_mut};
 use crate::model::{hand_out, Answer, HandOut, Outcome};
 use crate::wrong::calls::{in_rules, Faults, Making};
 
@@ -47,7 +48,7 @@ const MARKS: Faults<fn(&Sheet, u8) -> bool> = &[
     }),
     ("9 for the last level", |sheet, mark| {
         let last = sheet.levels.count() - 1;
-        (DOCUMENT.mark_is_right)(sheet, mark) && usize::from(mark % 16) != last
+        (DOCUMENT.mark_is_right)(sheet, mark) && level_of(mark) != last
     }),
 ];
 
@@ -172,8 +173,7 @@ const MISTAKEN: Faults<fn(&mut HandOut)> = &[
         }
     }),
     ("only five bits of a mark", |call| {
-        let marks = call.store.iter_mut().skip(2).step_by(ENTRY_BYTES);
-        marks.for_each(|mark| *mark %= 32);
+        marks_mut(&mut call.store).for_each(|mark| *mark &= MOST_MARK);
     }),
 ];
 
@@ -192,9 +192,9 @@ const MAKING: Faults<Making<HandOut>> = &[
         };
         let mut mistaken = call.clone();
         for (field, (mark, _)) in entries(&call.store).enumerate() {
-            let known = mark < 32 && usize::from(mark % 16) < levels;
+            let known = Mark::read(mark).is_some_and(|mark| mark.level < levels);
             if !known && !asked(&call.request).any(|asked| asked == field) {
-                mistaken.store[2 + ENTRY_BYTES * field] = 0;
+                mistaken.store[mark_at(field)] = 0;
             }
         }
         match right.answer.number {

@@ -4,10 +4,16 @@ use super::WrongHandOut;
 use crate::model::hand_out::rules::{length, Rules, DOCUMENT};
 use crate::model::hand_out::{asked, hand_out_by, request, Asked};
 use crate::model::number::{DONE, NODE_RANGE, OUTPUT, PARTIAL_ASKED, REQUEST};
-use crate::model::store::ENTRY_BYTES;
+use crate::model::sheet::COUNT_BYTES;
 use crate::model::{Answer, HandOut, Outcome};
-use crate::wrong::calls::{entries, fitting, Answering, Faults, Making, Spoiling, Writing};
+use crate::wrong::calls::{self, fitting, value_of};
+use crate::wrong::calls::{Answering, Faults, Making, Spoiling, Writing};
 use std::ops::Range;
+
+/// Where the entries of an answer stand.
+fn entries(answer: &[u8]) -> impl Iterator<Item = Range<usize>> {
+    calls::entries::<HandOut>(answer)
+}
 
 pub fn hand_outs() -> Vec<WrongHandOut> {
     let on_success = ON_SUCCESS.iter().copied().map(WrongHandOut::writing);
@@ -23,13 +29,13 @@ pub fn hand_outs() -> Vec<WrongHandOut> {
 
 const ON_SUCCESS: Faults<Writing<HandOut>> = &[
     ("the fields' count for the request's", |call, written| {
-        written[..2].copy_from_slice(&call.store[..2]);
+        written[..COUNT_BYTES].copy_from_slice(&call.store[..COUNT_BYTES]);
     }),
     (
         "the request's first field for the count",
         |call, written| {
             let first = asked(&call.request).next().unwrap_or(0);
-            written[..2].copy_from_slice(&(first as u16).to_le_bytes());
+            written[..COUNT_BYTES].copy_from_slice(&(first as u16).to_le_bytes());
         },
     ),
     ("a closed field's bytes not written", |call, written| {
@@ -42,7 +48,7 @@ const ON_SUCCESS: Faults<Writing<HandOut>> = &[
     ("a closed field's value not written", |call, written| {
         for entry in entries(written) {
             if written[entry.start] == 0 {
-                let value = entry.start + 1..entry.end;
+                let value = value_of(entry);
                 written[value.clone()].copy_from_slice(&call.output[value]);
             }
         }
@@ -52,7 +58,7 @@ const ON_SUCCESS: Faults<Writing<HandOut>> = &[
         |call, written| {
             leave_out(&partial_elsewhere(call), written);
             let left = (entries(written).count() as u16).to_le_bytes();
-            written[..2].copy_from_slice(&left);
+            written[..COUNT_BYTES].copy_from_slice(&left);
         },
     ),
     (
@@ -77,8 +83,7 @@ const ON_SUCCESS: Faults<Writing<HandOut>> = &[
         order.sort_unstable();
         let right = written.clone();
         for ((_, from), entry) in order.into_iter().zip(entries(&right)) {
-            let from = 2 + ENTRY_BYTES * from;
-            written[entry].copy_from_slice(&right[from..from + ENTRY_BYTES]);
+            written[entry].copy_from_slice(&right[length(from)..length(from + 1)]);
         }
     }),
     ("a repeat answered as closed", |call, written| {
@@ -130,7 +135,7 @@ fn unrefused(call: &HandOut) -> Vec<u8> {
 const ON_REFUSAL: Faults<Spoiling<HandOut>> = &[
     ("the count written on 18", |call, answer| {
         match answer.number {
-            PARTIAL_ASKED => call.request[..2].to_vec(),
+            PARTIAL_ASKED => call.request[..COUNT_BYTES].to_vec(),
             _ => Vec::new(),
         }
     }),
@@ -139,7 +144,7 @@ const ON_REFUSAL: Faults<Spoiling<HandOut>> = &[
         |call, answer| match answer.number {
             PARTIAL_ASKED => {
                 let mut written = unrefused(call);
-                written.truncate(2 + ENTRY_BYTES * usize::from(answer.place));
+                written.truncate(length(answer.place.into()));
                 written
             }
             _ => Vec::new(),

@@ -2,12 +2,12 @@
 
 use super::{in_rules, Faults, Named, WrongRunner};
 use crate::compare::effect::GUARD;
-use crate::model::marks::Mark;
+use crate::model::marks::{level_of, Mark, MOST_MARK, PARTIAL};
 use crate::model::number::STORE;
 use crate::model::rules::{DOCUMENT, MOST_FUEL};
 use crate::model::run::Mode;
-use crate::model::sheet::Sheet;
-use crate::model::store::{count, length, ENTRY_BYTES};
+use crate::model::sheet::{Sheet, COUNT_BYTES};
+use crate::model::store::{count, length, length_of, mark_at, marks_mut};
 use crate::model::{run, Call};
 use crate::wrong::calls::Making;
 
@@ -68,7 +68,7 @@ const STORES: Faults<fn(&Sheet, &[u8]) -> bool> = &[
     }),
     ("a store of more fields taken", |sheet, store| {
         let fields = count(store).unwrap_or(0);
-        fields >= sheet.fields.len() && store.len() == 2 + ENTRY_BYTES * fields
+        fields >= sheet.fields.len() && store.len() == length_of(fields)
     }),
 ];
 
@@ -100,7 +100,7 @@ const OUTPUTS: Faults<fn(&Sheet, usize) -> bool> = &[
         output + 1 >= length(sheet)
     }),
     ("an output without a count taken", |sheet, output| {
-        output + 2 >= length(sheet)
+        output + COUNT_BYTES >= length(sheet)
     }),
     ("the output not judged", |sheet, output| {
         output + GUARD >= length(sheet)
@@ -120,13 +120,12 @@ const MISTAKEN: Faults<fn(&mut Call)> = &[
         _ => {}
     }),
     ("only five bits of a mark", |call| {
-        let marks = call.store.iter_mut().skip(2).step_by(ENTRY_BYTES);
-        marks.for_each(|mark| *mark %= 32);
+        marks_mut(&mut call.store).for_each(|mark| *mark &= MOST_MARK);
     }),
     ("one level too many", |call| {
         let levels = fields_and_levels(call).map(|(_, levels)| levels);
-        let marks = call.store.iter_mut().skip(2).step_by(ENTRY_BYTES);
-        let unknown = marks.filter(|mark| Some(usize::from(**mark % 16)) == levels);
+        let marks = marks_mut(&mut call.store);
+        let unknown = marks.filter(|mark| Some(level_of(**mark)) == levels);
         unknown.for_each(|mark| *mark -= 1);
     }),
 ];
@@ -154,9 +153,9 @@ fn overlooking((name, overlooked): Named<fn(usize, usize) -> bool>) -> WrongRunn
             return run(call);
         };
         for field in (0..fields).filter(|&field| overlooked(field, fields)) {
-            if let Some(mark) = mistaken.store.get_mut(2 + ENTRY_BYTES * field) {
-                let partial = *mark & if call.mode == 0 { 0 } else { 16 };
-                *mark = partial | (*mark % 16).min(levels as u8 - 1);
+            if let Some(mark) = mistaken.store.get_mut(mark_at(field)) {
+                let partial = *mark & if call.mode == 0 { 0 } else { PARTIAL };
+                *mark = partial | level_of(*mark).min(levels - 1) as u8;
             }
         }
         run(&mistaken)

@@ -1,12 +1,19 @@
 //! Runners wrong about what they write, on success and on refusal.
 
 use super::{Faults, WrongRunner};
+use crate::model::marks::PARTIAL;
 use crate::model::number::{FUEL_USED_UP, MARK, OUTPUT, PARTIAL_TEST};
 use crate::model::rules::DOCUMENT;
 use crate::model::run::Start;
+use crate::model::sheet::COUNT_BYTES;
 use crate::model::Call;
-use crate::wrong::calls::{entries, fitting, Spoiling, Writing};
+use crate::wrong::calls::{self, fitting, value_of, Spoiling, Writing};
 use std::ops::Range;
+
+/// Where the entries of a store stand.
+fn entries(store: &[u8]) -> impl Iterator<Item = Range<usize>> {
+    calls::entries::<Call>(store)
+}
 
 pub fn runners() -> Vec<WrongRunner> {
     let on_success = ON_SUCCESS.iter().copied().map(WrongRunner::writing);
@@ -29,12 +36,12 @@ const ON_SUCCESS: Faults<Writing<Call>> = &[
         entries(&call.store).for_each(|entry| written[entry.start] = call.store[entry.start]);
     }),
     ("start values written", |call, written| {
-        for Range { start, end } in entries(&call.store) {
-            written[start + 1..end].copy_from_slice(&call.store[start + 1..end]);
+        for value in entries(&call.store).map(value_of) {
+            written[value.clone()].copy_from_slice(&call.store[value]);
         }
     }),
     ("partial marks written whole", |call, written| {
-        entries(&call.store).for_each(|entry| written[entry.start] %= 16);
+        entries(&call.store).for_each(|entry| written[entry.start] %= PARTIAL);
     }),
     ("levels of three bits written", |call, written| {
         entries(&call.store).for_each(|entry| written[entry.start] &= !8);
@@ -64,7 +71,7 @@ const ON_REFUSAL: Faults<Spoiling<Call>> = &[
     }),
     ("the count written on 9", |call, answer| {
         match answer.number {
-            MARK => fitting(call, &call.store[..2]),
+            MARK => fitting(call, &call.store[..COUNT_BYTES]),
             _ => Vec::new(),
         }
     }),

@@ -7,9 +7,11 @@ mod runs;
 
 use self::lists::*;
 use super::Generated;
+use crate::generate::levels::MOST_LEVELS;
+use crate::model::marks::{MOST_MARK, PARTIAL};
 use crate::model::number::{MARK, OUTPUT, STORE};
 use crate::model::sheet::Sheet;
-use crate::model::store::ENTRY_BYTES;
+use crate::model::store::{mark_at, STORE_ENTRY_BYTES};
 use crate::random::Random;
 
 /// How a damage is done; false if it doesn't fit the call, which then stays.
@@ -119,7 +121,7 @@ fn no_output<C: Generated>(call: &mut C, _: &Sheet, _: &mut Random) -> bool {
 /// Count and length in step.
 fn field_less(store: &mut Vec<u8>, _: &mut Random) -> bool {
     let fields = count(store);
-    store.truncate(store.len() - ENTRY_BYTES);
+    store.truncate(store.len() - STORE_ENTRY_BYTES);
     set_count(store, fields - 1);
     true
 }
@@ -127,7 +129,7 @@ fn field_less(store: &mut Vec<u8>, _: &mut Random) -> bool {
 /// Count and length in step.
 fn field_more(store: &mut Vec<u8>, _: &mut Random) -> bool {
     let fields = count(store);
-    store.extend_from_within(store.len() - ENTRY_BYTES..);
+    store.extend_from_within(store.len() - STORE_ENTRY_BYTES..);
     set_count(store, fields + 1);
     true
 }
@@ -144,37 +146,38 @@ fn some_of(count: usize, random: &mut Random) -> usize {
 /// The mark of a field.
 fn some_mark<'a, C: Generated>(call: &'a mut C, sheet: &Sheet, random: &mut Random) -> &'a mut u8 {
     let field = some_of(sheet.fields.len(), random);
-    &mut call.store()[2 + ENTRY_BYTES * field]
+    &mut call.store()[mark_at(field)]
 }
 
 /// Any such byte, or a known mark with a bit more.
 fn mark_above_31<C: Generated>(call: &mut C, sheet: &Sheet, random: &mut Random) -> bool {
-    let any = random.between(32, 255) as u8;
-    let bit = 32 << random.below(3);
+    const LEAST: u8 = MOST_MARK + 1;
+    let any = random.between(LEAST.into(), 255) as u8;
+    let bit = LEAST << random.below(3);
     let mark = some_mark(call, sheet, random);
-    *mark = random.pick(&[*mark | bit, 32, 255, any]);
+    *mark = random.pick(&[*mark | bit, LEAST, 255, any]);
     true
 }
 
 /// Puts a level and, where the mode lets it, a partial bit at random.
 fn put_level<C: Generated>(call: &mut C, sheet: &Sheet, random: &mut Random, level: usize) {
-    let partial = 16 * u8::from(random.once_in(2));
+    let partial = PARTIAL * u8::from(random.once_in(2));
     *some_mark(call, sheet, random) = level as u8 + partial;
 }
 
 fn unknown_level<C: Generated>(call: &mut C, sheet: &Sheet, random: &mut Random) -> bool {
     let levels = sheet.levels.count();
-    if levels < 16 {
-        let level = random.between(levels, 15);
+    if levels < MOST_LEVELS {
+        let level = random.between(levels, MOST_LEVELS - 1);
         put_level(call, sheet, random, level);
     }
-    levels < 16
+    levels < MOST_LEVELS
 }
 
 fn first_unknown_level<C: Generated>(call: &mut C, sheet: &Sheet, random: &mut Random) -> bool {
     let levels = sheet.levels.count();
-    if levels < 16 {
+    if levels < MOST_LEVELS {
         put_level(call, sheet, random, levels);
     }
-    levels < 16
+    levels < MOST_LEVELS
 }

@@ -1,10 +1,11 @@
 //! Damages to calls of run.
 
 use super::{some_mark, Damage};
+use crate::model::marks::PARTIAL;
 use crate::model::number::{MARK, MODE_OR_FUEL};
 use crate::model::rules::MOST_FUEL;
 use crate::model::sheet::Sheet;
-use crate::model::store::ENTRY_BYTES;
+use crate::model::store::marks_mut;
 use crate::model::Call;
 use crate::random::Random;
 
@@ -32,15 +33,13 @@ impl Damage<Call> {
 
 fn strict_partial(call: &mut Call, sheet: &Sheet, random: &mut Random) -> bool {
     call.mode = 0;
-    *some_mark(call, sheet, random) |= 16;
+    *some_mark(call, sheet, random) |= PARTIAL;
     true
 }
 
-fn only_partial(call: &mut Call, sheet: &Sheet, _: &mut Random) -> bool {
+fn only_partial(call: &mut Call, _: &Sheet, _: &mut Random) -> bool {
     call.mode = 0;
-    for field in 0..sheet.fields.len() {
-        call.store[2 + ENTRY_BYTES * field] |= 16;
-    }
+    marks_mut(&mut call.store).for_each(|mark| *mark |= PARTIAL);
     true
 }
 
