@@ -9,37 +9,37 @@ pub mod number {
     /// Success.
     pub const DONE: u8 = 0;
     /// Row 1: sheet ends too soon or has bytes left.
-    pub const LENGTH: u8 = 1;
+    pub const SHEET_LENGTH: u8 = 1;
     /// Row 2: a count outside its limits.
-    pub const COUNT: u8 = 2;
+    pub const COUNT_OUTSIDE: u8 = 2;
     /// Row 3: levels not as above.
-    pub const LEVELS: u8 = 3;
+    pub const LEVELS_WRONG: u8 = 3;
     /// Row 4: a bad or repeated name.
-    pub const NAME: u8 = 4;
+    pub const NAME_WRONG: u8 = 4;
     /// Row 6: a node not used once, or the last not a command.
-    pub const USE: u8 = 6;
+    pub const NOT_USED_ONCE: u8 = 6;
     /// Row 7: depth over 64.
-    pub const DEPTH: u8 = 7;
+    pub const TOO_DEEP: u8 = 7;
     /// Row 8: store length or count doesn't fit the sheet.
-    pub const STORE: u8 = 8;
+    pub const STORE_MISFIT: u8 = 8;
     /// Row 9: a mark above 31 or its level unknown; in a strict run also a partial mark.
-    pub const MARK: u8 = 9;
+    pub const MARK_WRONG: u8 = 9;
     /// Row 10: mode not 0 (strict) or 1 (permissive), or fuel over 1,000,000.
     pub const MODE_OR_FUEL: u8 = 10;
     /// Row 11: output shorter than the store or answer.
-    pub const OUTPUT: u8 = 11;
+    pub const OUT_SHORT: u8 = 11;
     /// Row 12: fuel used up.
-    pub const FUEL_USED_UP: u8 = 12;
+    pub const FUEL_SPENT: u8 = 12;
     /// Row 13: result out of range.
     pub const OUT_OF_RANGE: u8 = 13;
     /// Row 14: divisor 0.
-    pub const DIVISOR: u8 = 14;
+    pub const DIVISOR_ZERO: u8 = 14;
     /// Row 15: strict: context not at or below the field's level.
-    pub const CONTEXT: u8 = 15;
+    pub const NOT_BELOW: u8 = 15;
     /// Row 16: permissive: partial test.
     pub const PARTIAL_TEST: u8 = 16;
     /// Row 17: hand-out: reader unknown, request's size, count or a field number wrong.
-    pub const REQUEST: u8 = 17;
+    pub const READER_OR_REQUEST: u8 = 17;
     /// Row 18: hand-out: partial field at or below the reader asked.
     pub const PARTIAL_ASKED: u8 = 18;
     /// Row 19: unknown kind or operator.
@@ -55,7 +55,7 @@ pub mod number {
     pub const OF_NODES: &[u8] = &[NODE_UNKNOWN, NODE_UNUSED, NODE_RANGE, NODE_SORT];
 
     /// Rows 12 to 16 come as the run meets them.
-    pub const STOPS: RangeInclusive<u8> = FUEL_USED_UP..=PARTIAL_TEST;
+    pub const STOPS: RangeInclusive<u8> = FUEL_SPENT..=PARTIAL_TEST;
 }
 
 /// The answer of a call.

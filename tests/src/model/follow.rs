@@ -1,7 +1,7 @@
 //! A run under way: expressions are worked out and commands followed by plain
 //! recursion over the nodes. What is the document's to decide stands in `rules`.
 
-use super::answer::number::FUEL_USED_UP;
+use super::answer::number::FUEL_SPENT;
 use super::marks::Mark;
 use super::rules::{Assigned, Contexts, Rules};
 use super::run::{Mode, Start};
@@ -130,7 +130,7 @@ impl Run<'_> {
     fn spend(&mut self, node: usize) -> Result<(), Stop> {
         let units = (self.rules.units)(self.sheet.nodes[node].command());
         let left = self.fuel_left.checked_sub(units);
-        self.fuel_left = at(node, left.ok_or(FUEL_USED_UP))?;
+        self.fuel_left = at(node, left.ok_or(FUEL_SPENT))?;
         Ok(())
     }
 

@@ -36,24 +36,24 @@ pub struct Check {
 /// Rows 3, 4, 19 to 22, 6 and 7, in the order of checks.
 pub const CHECKS: [Check; 5] = [
     Check {
-        numbers: &[number::LEVELS],
-        refusal: |sheet| unless(levels::levels_are_right(sheet), number::LEVELS),
+        numbers: &[number::LEVELS_WRONG],
+        refusal: |sheet| unless(levels::levels_are_right(sheet), number::LEVELS_WRONG),
     },
     Check {
-        numbers: &[number::NAME],
-        refusal: |sheet| unless(names::names_are_right(sheet), number::NAME),
+        numbers: &[number::NAME_WRONG],
+        refusal: |sheet| unless(names::names_are_right(sheet), number::NAME_WRONG),
     },
     Check {
         numbers: number::OF_NODES,
         refusal: nodes::first_fault,
     },
     Check {
-        numbers: &[number::USE],
-        refusal: |sheet| unless(tree::uses_are_right(sheet), number::USE),
+        numbers: &[number::NOT_USED_ONCE],
+        refusal: |sheet| unless(tree::uses_are_right(sheet), number::NOT_USED_ONCE),
     },
     Check {
-        numbers: &[number::DEPTH],
-        refusal: |sheet| unless(tree::depth_is_right(sheet), number::DEPTH),
+        numbers: &[number::TOO_DEEP],
+        refusal: |sheet| unless(tree::depth_is_right(sheet), number::TOO_DEEP),
     },
 ];
 

@@ -2,7 +2,7 @@
 //! it follows. A run goes by a table of them, so that a runner which is wrong
 //! about one rule can be made from the others.
 
-use super::answer::number::{CONTEXT, PARTIAL_TEST};
+use super::answer::number::{NOT_BELOW, PARTIAL_TEST};
 use super::follow::{Run, Stop};
 use super::levels::Levels;
 use super::marks::{join, meet, Mark};
@@ -174,7 +174,7 @@ fn mark_of_assigned(levels: &Levels, mode: Mode, assigned: Assigned) -> Result<M
         return Ok(mark.join(Mark::whole(context), levels));
     }
     match mode {
-        Mode::Strict => Err(CONTEXT),
+        Mode::Strict => Err(NOT_BELOW),
         Mode::Permissive => Ok(Mark::partial(meet(levels, context, field.level))),
     }
 }

@@ -2,7 +2,7 @@
 //! Here stand the call, its checks in the order of the table and what it brings
 //! about; `follow` has the run itself.
 
-use super::answer::number::{DONE, MARK, MODE_OR_FUEL, OUTPUT, STORE};
+use super::answer::number::{DONE, MARK_WRONG, MODE_OR_FUEL, OUT_SHORT, STORE_MISFIT};
 use super::answer::Answer;
 use super::follow::{Run, Stop, Watch};
 use super::judged;
@@ -86,13 +86,13 @@ impl Start {
         };
         let sheet = judged(&call.sheet)?;
         if !(rules.store_fits)(&sheet, &call.store) {
-            return Err(Answer::plain(STORE));
+            return Err(Answer::plain(STORE_MISFIT));
         }
         if !entries(&call.store).all(|(mark, _)| (rules.mark_is_right)(&sheet, mode, mark)) {
-            return Err(Answer::plain(MARK));
+            return Err(Answer::plain(MARK_WRONG));
         }
         if !(rules.output_is_long_enough)(&sheet, call.output.len()) {
-            return Err(Answer::plain(OUTPUT));
+            return Err(Answer::plain(OUT_SHORT));
         }
         Ok(Start {
             store: Store::read(&sheet, &call.store),

@@ -11,7 +11,7 @@ use super::store::entries;
 pub fn prints(file: &[u8]) -> String {
     match asked(file) {
         Some(call) => printed(&call, &run(&call)),
-        None => refused(Answer::plain(number::LENGTH)),
+        None => refused(Answer::plain(number::SHEET_LENGTH)),
     }
 }
 

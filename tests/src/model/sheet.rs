@@ -89,7 +89,7 @@ fn read_section<'a>(rest: &'a [u8], section: &Section) -> Result<(&'a [u8], &'a 
 
 /// Row 1: sheet ends too soon.
 fn take(rest: &[u8], bytes: usize) -> Result<(&[u8], &[u8]), u8> {
-    rest.split_at_checked(bytes).ok_or(number::LENGTH)
+    rest.split_at_checked(bytes).ok_or(number::SHEET_LENGTH)
 }
 
 /// Row 1: or has bytes left.
@@ -97,7 +97,7 @@ fn nothing_left(rest: &[u8]) -> Result<(), u8> {
     if rest.is_empty() {
         Ok(())
     } else {
-        Err(number::LENGTH)
+        Err(number::SHEET_LENGTH)
     }
 }
 
@@ -106,7 +106,7 @@ fn within_limits(count: usize, section: &Section) -> Result<(), u8> {
     if (section.least..=section.most).contains(&count) {
         Ok(())
     } else {
-        Err(number::COUNT)
+        Err(number::COUNT_OUTSIDE)
     }
 }
 

@@ -2,7 +2,7 @@
 //! "not". A result is worked out in 64 bits, where it is exact, and then held
 //! against the range.
 
-use super::answer::number::{DIVISOR, OUT_OF_RANGE};
+use super::answer::number::{DIVISOR_ZERO, OUT_OF_RANGE};
 
 /// The least number.
 pub const LEAST: i64 = -2_147_483_648;
@@ -72,7 +72,7 @@ pub fn in_range(result: i64) -> Result<i64, u8> {
 /// Row 14: divisor 0.
 fn divisor(right: i64) -> Result<i64, u8> {
     match right {
-        0 => Err(DIVISOR),
+        0 => Err(DIVISOR_ZERO),
         _ => Ok(right),
     }
 }

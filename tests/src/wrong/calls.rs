@@ -212,16 +212,16 @@ pub type Row<C> = (u8, fn(&C) -> bool);
 /// Load's rows in the order of checks.
 pub fn rows_of_load<C: Compared>() -> [Row<C>; 10] {
     [
-        (LENGTH, loads_as::<C, LENGTH>),
-        (COUNT, loads_as::<C, COUNT>),
-        (LEVELS, loads_as::<C, LEVELS>),
-        (NAME, loads_as::<C, NAME>),
+        (SHEET_LENGTH, loads_as::<C, SHEET_LENGTH>),
+        (COUNT_OUTSIDE, loads_as::<C, COUNT_OUTSIDE>),
+        (LEVELS_WRONG, loads_as::<C, LEVELS_WRONG>),
+        (NAME_WRONG, loads_as::<C, NAME_WRONG>),
         (NODE_UNKNOWN, loads_as::<C, NODE_UNKNOWN>),
         (NODE_UNUSED, loads_as::<C, NODE_UNUSED>),
         (NODE_RANGE, loads_as::<C, NODE_RANGE>),
         (NODE_SORT, loads_as::<C, NODE_SORT>),
-        (USE, loads_as::<C, USE>),
-        (DEPTH, loads_as::<C, DEPTH>),
+        (NOT_USED_ONCE, loads_as::<C, NOT_USED_ONCE>),
+        (TOO_DEEP, loads_as::<C, TOO_DEEP>),
     ]
 }
 
@@ -236,7 +236,7 @@ pub fn rows_exchanged<C: Compared>(rows: &[Row<C>]) -> Vec<Wrong<C>> {
     for (at, &(late, fails)) in rows.iter().enumerate() {
         for &(early, _) in &rows[..at] {
             let of_load = is_of_load(early) && is_of_load(late);
-            let unread = early == LENGTH || early == COUNT;
+            let unread = early == SHEET_LENGTH || early == COUNT_OUTSIDE;
             if !of_load && !unread {
                 wrong.push(told(late, early, fails));
             }
@@ -246,7 +246,7 @@ pub fn rows_exchanged<C: Compared>(rows: &[Row<C>]) -> Vec<Wrong<C>> {
 }
 
 fn is_of_load(number: u8) -> bool {
-    number <= DEPTH || OF_NODES.contains(&number)
+    number <= TOO_DEEP || OF_NODES.contains(&number)
 }
 
 fn told<C: Compared>(late: u8, early: u8, fails: fn(&C) -> bool) -> Wrong<C> {

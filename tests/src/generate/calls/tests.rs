@@ -142,7 +142,7 @@ fn every_operator_stops_and_ends_runs() {
         answer.number == stop && start.sheet.nodes[place].operator == number
     };
     let out_of_range = (0..4).map(|number| (number, OUT_OF_RANGE));
-    let divisor = (3..5).map(|number| (number, DIVISOR));
+    let divisor = (3..5).map(|number| (number, DIVISOR_ZERO));
     for (number, stop) in out_of_range.chain(divisor) {
         assert!(comes_up(|_, start, answer| {
             stops(start, answer, number, stop)
@@ -155,7 +155,7 @@ fn fuel_beyond_the_units_changes_nothing() {
     for (call, _) in starts(4_000) {
         let right = run(&call);
         let Answer { number, units, .. } = right.answer;
-        if number == FUEL_USED_UP {
+        if number == FUEL_SPENT {
             assert_eq!(units, call.fuel);
             continue;
         }
@@ -168,7 +168,7 @@ fn fuel_beyond_the_units_changes_nothing() {
         assert_eq!(with(units), right);
         assert_eq!(with(units + 1), right);
         let less = with(units - 1).answer;
-        assert_eq!((less.number, less.units), (FUEL_USED_UP, units - 1));
+        assert_eq!((less.number, less.units), (FUEL_SPENT, units - 1));
     }
 }
 
@@ -177,7 +177,7 @@ fn strict_runs_are_permissive_runs_without_partial_marks() {
     for (call, start) in starts(8_000).filter(|(_, start)| start.mode == Mode::Strict) {
         let strict = run(&call);
         let permissive = run(&Call { mode: 1, ..call });
-        if strict.answer.number != CONTEXT {
+        if strict.answer.number != NOT_BELOW {
             assert_eq!(strict, permissive);
         }
         assert_ne!(strict.answer.number, PARTIAL_TEST);

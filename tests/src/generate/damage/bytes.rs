@@ -7,12 +7,12 @@ use crate::random::Random;
 
 /// Row 1.
 pub const LENGTHS: &[Damage] = &[
-    Damage::to_bytes("a byte short", number::LENGTH, byte_short),
-    Damage::to_bytes("cut anywhere", number::LENGTH, cut_anywhere),
-    Damage::to_bytes("cut at a count", number::LENGTH, cut_at_a_count),
-    Damage::to_bytes("a byte left", number::LENGTH, byte_left),
-    Damage::to_bytes("an entry left", number::LENGTH, entry_left),
-    Damage::to_bytes("many bytes left", number::LENGTH, many_bytes_left),
+    Damage::to_bytes("a byte short", number::SHEET_LENGTH, byte_short),
+    Damage::to_bytes("cut anywhere", number::SHEET_LENGTH, cut_anywhere),
+    Damage::to_bytes("cut at a count", number::SHEET_LENGTH, cut_at_a_count),
+    Damage::to_bytes("a byte left", number::SHEET_LENGTH, byte_left),
+    Damage::to_bytes("an entry left", number::SHEET_LENGTH, entry_left),
+    Damage::to_bytes("many bytes left", number::SHEET_LENGTH, many_bytes_left),
 ];
 
 /// Changes that may bring about any number.

@@ -13,16 +13,24 @@ use crate::random::Random;
 
 /// Row 2.
 pub const COUNTS: &[Damage] = &[
-    Damage::to_sheet("no levels", number::COUNT, no_levels),
-    Damage::to_sheet("no fields", number::COUNT, no_fields),
-    Damage::to_sheet("no nodes", number::COUNT, no_nodes),
-    Damage::to_sheet("too many levels", number::COUNT, too_many_levels),
-    Damage::to_sheet("too many fields", number::COUNT, too_many_fields),
-    Damage::to_sheet("too many constants", number::COUNT, too_many_constants),
-    Damage::to_sheet("too many nodes", number::COUNT, too_many_nodes),
-    Damage::to_bytes("a count too low", number::COUNT, count_too_low),
-    Damage::to_bytes("a count too high", number::COUNT, count_too_high),
-    Damage::to_bytes("a count's high byte", number::COUNT, count_high_byte),
+    Damage::to_sheet("no levels", number::COUNT_OUTSIDE, no_levels),
+    Damage::to_sheet("no fields", number::COUNT_OUTSIDE, no_fields),
+    Damage::to_sheet("no nodes", number::COUNT_OUTSIDE, no_nodes),
+    Damage::to_sheet("too many levels", number::COUNT_OUTSIDE, too_many_levels),
+    Damage::to_sheet("too many fields", number::COUNT_OUTSIDE, too_many_fields),
+    Damage::to_sheet(
+        "too many constants",
+        number::COUNT_OUTSIDE,
+        too_many_constants,
+    ),
+    Damage::to_sheet("too many nodes", number::COUNT_OUTSIDE, too_many_nodes),
+    Damage::to_bytes("a count too low", number::COUNT_OUTSIDE, count_too_low),
+    Damage::to_bytes("a count too high", number::COUNT_OUTSIDE, count_too_high),
+    Damage::to_bytes(
+        "a count's high byte",
+        number::COUNT_OUTSIDE,
+        count_high_byte,
+    ),
 ];
 
 fn no_levels(sheet: &mut Sheet, _: &mut Random) -> bool {

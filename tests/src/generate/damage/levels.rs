@@ -12,15 +12,19 @@ use crate::random::Random;
 
 /// Row 3.
 pub const LEVELS: &[Damage] = &[
-    Damage::to_sheet("a bit past the count", number::LEVELS, bit_past_the_count),
-    Damage::to_sheet("not reflexive", number::LEVELS, not_reflexive),
-    Damage::to_sheet("an empty row", number::LEVELS, empty_row),
-    Damage::to_sheet("not antisymmetric", number::LEVELS, not_antisymmetric),
-    Damage::to_sheet("twins", number::LEVELS, twins),
-    Damage::to_sheet("not transitive", number::LEVELS, not_transitive),
-    Damage::to_sheet("no top", number::LEVELS, no_top),
-    Damage::to_sheet("no bottom", number::LEVELS, no_bottom),
-    Damage::to_sheet("no least bounds", number::LEVELS, no_least_bounds),
+    Damage::to_sheet(
+        "a bit past the count",
+        number::LEVELS_WRONG,
+        bit_past_the_count,
+    ),
+    Damage::to_sheet("not reflexive", number::LEVELS_WRONG, not_reflexive),
+    Damage::to_sheet("an empty row", number::LEVELS_WRONG, empty_row),
+    Damage::to_sheet("not antisymmetric", number::LEVELS_WRONG, not_antisymmetric),
+    Damage::to_sheet("twins", number::LEVELS_WRONG, twins),
+    Damage::to_sheet("not transitive", number::LEVELS_WRONG, not_transitive),
+    Damage::to_sheet("no top", number::LEVELS_WRONG, no_top),
+    Damage::to_sheet("no bottom", number::LEVELS_WRONG, no_bottom),
+    Damage::to_sheet("no least bounds", number::LEVELS_WRONG, no_least_bounds),
 ];
 
 /// Changes that may leave a lattice.

@@ -12,7 +12,7 @@ mod tree;
 
 use super::write::Written;
 use super::{valid, Case};
-use crate::model::number::{COUNT, DEPTH, DONE, LENGTH, OF_NODES, USE};
+use crate::model::number::{COUNT_OUTSIDE, DONE, NOT_USED_ONCE, OF_NODES, SHEET_LENGTH, TOO_DEEP};
 use crate::model::sheet::Sheet;
 use crate::random::Random;
 use std::cmp::Reverse;
@@ -141,11 +141,11 @@ fn expected(damages: &[Damage]) -> Option<u8> {
     };
     let beside = |&&number: &&u8| position(number) == position(first);
     let times = numbers.iter().filter(beside).count();
-    let overtaken = first == LENGTH && numbers.contains(&COUNT);
+    let overtaken = first == SHEET_LENGTH && numbers.contains(&COUNT_OUTSIDE);
     // A second damage to the tree may make a node faulty by itself.
     let trees = numbers
         .iter()
-        .filter(|&&number| number == USE || number == DEPTH);
+        .filter(|&&number| number == NOT_USED_ONCE || number == TOO_DEEP);
     let in_doubt = OF_NODES.contains(&first) && trees.count() > 1;
     (times == 1 && !overtaken && !in_doubt).then_some(first)
 }

@@ -8,13 +8,13 @@ use crate::random::Random;
 
 /// Row 4.
 pub const NAMES: &[Damage] = &[
-    Damage::to_sheet("a bad first character", number::NAME, bad_first),
-    Damage::to_sheet("a bad later character", number::NAME, bad_later),
-    Damage::to_sheet("a byte after a zero byte", number::NAME, after_a_zero),
-    Damage::to_sheet("a zero byte inside", number::NAME, zero_inside),
-    Damage::to_sheet("a zero byte first", number::NAME, zero_first),
-    Damage::to_sheet("an empty name", number::NAME, empty),
-    Damage::to_sheet("a name twice", number::NAME, twice),
+    Damage::to_sheet("a bad first character", number::NAME_WRONG, bad_first),
+    Damage::to_sheet("a bad later character", number::NAME_WRONG, bad_later),
+    Damage::to_sheet("a byte after a zero byte", number::NAME_WRONG, after_a_zero),
+    Damage::to_sheet("a zero byte inside", number::NAME_WRONG, zero_inside),
+    Damage::to_sheet("a zero byte first", number::NAME_WRONG, zero_first),
+    Damage::to_sheet("an empty name", number::NAME_WRONG, empty),
+    Damage::to_sheet("a name twice", number::NAME_WRONG, twice),
 ];
 
 /// Neighbours of the allowed ranges and others.

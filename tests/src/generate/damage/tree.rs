@@ -11,27 +11,39 @@ use crate::random::Random;
 
 /// Row 6.
 pub const USES: &[Damage] = &[
-    Damage::to_sheet("a child for another", number::USE, child_for_another),
-    Damage::to_sheet("only used twice", number::USE, only_used_twice),
-    Damage::to_sheet("twice in one node", number::USE, twice_in_one_node),
-    Damage::to_sheet("only never used", number::USE, only_never_used),
+    Damage::to_sheet(
+        "a child for another",
+        number::NOT_USED_ONCE,
+        child_for_another,
+    ),
+    Damage::to_sheet("only used twice", number::NOT_USED_ONCE, only_used_twice),
+    Damage::to_sheet(
+        "twice in one node",
+        number::NOT_USED_ONCE,
+        twice_in_one_node,
+    ),
+    Damage::to_sheet("only never used", number::NOT_USED_ONCE, only_never_used),
     Damage::to_sheet(
         "a command after the last",
-        number::USE,
+        number::NOT_USED_ONCE,
         command_after_the_last,
     ),
     Damage::to_sheet(
         "an expression after the last",
-        number::USE,
+        number::NOT_USED_ONCE,
         expression_after_the_last,
     ),
-    Damage::to_sheet("all an expression", number::USE, all_an_expression),
+    Damage::to_sheet(
+        "all an expression",
+        number::NOT_USED_ONCE,
+        all_an_expression,
+    ),
 ];
 
 /// Row 7.
 pub const DEPTHS: &[Damage] = &[
-    Damage::to_sheet("one too deep", number::DEPTH, one_too_deep),
-    Damage::to_sheet("far too deep", number::DEPTH, far_too_deep),
+    Damage::to_sheet("one too deep", number::TOO_DEEP, one_too_deep),
+    Damage::to_sheet("far too deep", number::TOO_DEEP, far_too_deep),
 ];
 
 /// A place of a node that holds a child.

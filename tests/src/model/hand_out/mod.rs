@@ -5,7 +5,9 @@
 pub mod rules;
 
 use self::rules::{Rules, ANSWER_ENTRY_BYTES, DOCUMENT};
-use super::answer::number::{DONE, MARK, OUTPUT, PARTIAL_ASKED, REQUEST, STORE};
+use super::answer::number::{
+    DONE, MARK_WRONG, OUT_SHORT, PARTIAL_ASKED, READER_OR_REQUEST, STORE_MISFIT,
+};
 use super::sheet::{Sheet, COUNT_BYTES};
 use super::store::{count, counted, entries, entries_of, Marked, Store};
 use super::{judged, Answer, Outcome};
@@ -82,14 +84,14 @@ impl Asked {
     pub fn checked(rules: &Rules, call: &HandOut) -> Result<Asked, Answer> {
         let sheet = judged(&call.sheet)?;
         if !(rules.store_fits)(&sheet, &call.store) {
-            return Err(Answer::plain(STORE));
+            return Err(Answer::plain(STORE_MISFIT));
         }
         if !entries(&call.store).all(|(mark, _)| (rules.mark_is_right)(&sheet, mark)) {
-            return Err(Answer::plain(MARK));
+            return Err(Answer::plain(MARK_WRONG));
         }
-        let fields = request_fields(rules, &sheet, call).ok_or(Answer::plain(REQUEST))?;
+        let fields = request_fields(rules, &sheet, call).ok_or(Answer::plain(READER_OR_REQUEST))?;
         if !(rules.output_is_long_enough)(fields.len(), call.output.len()) {
-            return Err(Answer::plain(OUTPUT));
+            return Err(Answer::plain(OUT_SHORT));
         }
         Ok(Asked {
             store: Store::read(&sheet, &call.store),

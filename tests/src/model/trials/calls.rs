@@ -55,17 +55,17 @@ fn store_lengths_and_counts() {
         let mut call = quiet();
         call.store.resize(length, 0);
         call.output = vec![0; 70_000];
-        gives(STORE, &call);
+        gives(STORE_MISFIT, &call);
     }
     for count in [[0, 0], [2, 0], [4, 0], [3, 1], [0, 3], [255, 255]] {
         let mut call = quiet();
         call.store[..2].copy_from_slice(&count);
-        gives(STORE, &call);
+        gives(STORE_MISFIT, &call);
     }
     // One field more or less, count and length in step.
     for fields in [vec![whole(0, 1); 2], vec![whole(0, 1); 4]] {
         let store = store(&fields);
-        gives(STORE, &Call { store, ..quiet() });
+        gives(STORE_MISFIT, &Call { store, ..quiet() });
     }
 }
 
@@ -78,9 +78,9 @@ fn marks() {
             call
         };
         for mark in 0..=255 {
-            let number = if of_diamond(mark) { DONE } else { MARK };
+            let number = if of_diamond(mark) { DONE } else { MARK_WRONG };
             gives(number, &with(mark, PERMISSIVE));
-            let number = if mark < 4 { DONE } else { MARK };
+            let number = if mark < 4 { DONE } else { MARK_WRONG };
             gives(number, &with(mark, STRICT));
         }
     }
@@ -90,7 +90,7 @@ fn marks() {
 fn output_lengths() {
     for length in 0..length_of(3) {
         let output = vec![9; length];
-        gives(OUTPUT, &Call { output, ..quiet() });
+        gives(OUT_SHORT, &Call { output, ..quiet() });
     }
 }
 
@@ -98,20 +98,20 @@ fn output_lengths() {
 fn the_first_failing_row_in_the_order_is_told() {
     let mut call = quiet();
     call.fuel = 0;
-    refused(&call, FUEL_USED_UP, 0, 0);
+    refused(&call, FUEL_SPENT, 0, 0);
     call.output.pop();
-    gives(OUTPUT, &call);
+    gives(OUT_SHORT, &call);
     call.store[mark_at(0)] = PARTIAL;
-    gives(MARK, &call);
+    gives(MARK_WRONG, &call);
     call.store.push(0);
-    gives(STORE, &call);
+    gives(STORE_MISFIT, &call);
     let last_place = call.sheet.len() - 1;
     call.sheet[last_place] = 1;
     gives(NODE_UNUSED, &call);
     call.sheet[2] = 0;
-    gives(LEVELS, &call);
+    gives(LEVELS_WRONG, &call);
     call.sheet.push(0);
-    gives(LENGTH, &call);
+    gives(SHEET_LENGTH, &call);
     call.fuel = 1_000_001;
     gives(MODE_OR_FUEL, &call);
     call.fuel = 0;
@@ -126,13 +126,13 @@ fn each_number_of_the_sheet_comes_before_8_and_after_10() {
         ..plain()
     };
     let sheets: [(u8, Parts); 7] = [
-        (LEVELS, Parts::of(&[0], 1, skip())),
-        (COUNT, Parts::of(&[1], 0, skip())),
+        (LEVELS_WRONG, Parts::of(&[0], 1, skip())),
+        (COUNT_OUTSIDE, Parts::of(&[1], 0, skip())),
         (NODE_UNKNOWN, node([10, 0, 0, 0, 0])),
         (NODE_UNUSED, node([5, 0, 0, 0, 1])),
         (NODE_RANGE, node([1, 0, 2, 0, 0])),
-        (USE, Parts::of(&[1], 1, constant(0))),
-        (DEPTH, Parts::of(&[1], 1, deep(65))),
+        (NOT_USED_ONCE, Parts::of(&[1], 1, constant(0))),
+        (TOO_DEEP, Parts::of(&[1], 1, deep(65))),
     ];
     for (number, parts) in sheets {
         let mut call = Call {
@@ -161,7 +161,7 @@ fn deep(depth: usize) -> Tree {
 
 #[test]
 fn depth_64_is_run() {
-    for (depth, number) in [(64, DONE), (65, DEPTH)] {
+    for (depth, number) in [(64, DONE), (65, TOO_DEEP)] {
         let sheet = Parts::of(&[1], 1, deep(depth));
         gives(number, &call(&sheet, &[whole(0, 1)], STRICT, 64));
     }

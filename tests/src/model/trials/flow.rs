@@ -44,9 +44,9 @@ fn the_flag_sheet_at_cost_600() {
             let call = at_cost(&sheet, 600, mode, fuel);
             done(&call, 6, &[whole(0, 0), whole(0, 1), whole(1, 600)]);
         }
-        refused(&at_cost(&sheet, 600, mode, 5), FUEL_USED_UP, 15, 5);
-        refused(&at_cost(&sheet, 600, mode, 4), FUEL_USED_UP, 17, 4);
-        refused(&at_cost(&sheet, 600, mode, 0), FUEL_USED_UP, 1, 0);
+        refused(&at_cost(&sheet, 600, mode, 5), FUEL_SPENT, 15, 5);
+        refused(&at_cost(&sheet, 600, mode, 4), FUEL_SPENT, 17, 4);
+        refused(&at_cost(&sheet, 600, mode, 0), FUEL_SPENT, 1, 0);
     }
 }
 
@@ -54,10 +54,10 @@ fn the_flag_sheet_at_cost_600() {
 fn the_flag_sheet_at_cost_400() {
     let sheet = plain_flag_sheet();
     refused(&at_cost(&sheet, 400, PERMISSIVE, 9), PARTIAL_TEST, 17, 5);
-    refused(&at_cost(&sheet, 400, STRICT, 9), CONTEXT, 8, 4);
+    refused(&at_cost(&sheet, 400, STRICT, 9), NOT_BELOW, 8, 4);
     // Each stop spends its unit first.
-    refused(&at_cost(&sheet, 400, PERMISSIVE, 4), FUEL_USED_UP, 17, 4);
-    refused(&at_cost(&sheet, 400, STRICT, 3), FUEL_USED_UP, 8, 3);
+    refused(&at_cost(&sheet, 400, PERMISSIVE, 4), FUEL_SPENT, 17, 4);
+    refused(&at_cost(&sheet, 400, STRICT, 3), FUEL_SPENT, 8, 3);
 }
 
 #[test]
@@ -67,7 +67,7 @@ fn the_flag_sheet_with_a_seal() {
     done(&at_400, 6, &[partial(0, 1), whole(0, 0), whole(1, 400)]);
     let at_600 = at_cost(&sheet, 600, PERMISSIVE, 9);
     done(&at_600, 6, &[whole(0, 0), partial(0, 1), whole(1, 600)]);
-    refused(&at_cost(&sheet, 600, STRICT, 9), CONTEXT, 16, 6);
+    refused(&at_cost(&sheet, 600, STRICT, 9), NOT_BELOW, 16, 6);
 }
 
 /// What a reader gets who asks for these fields after a run.
@@ -199,7 +199,7 @@ fn a_partial_test_stops_an_if_and_a_while() {
         let sheet = Parts::of(&[3, 2], 1, command);
         let with = |fuel| call(&sheet, &[partial(0, 0)], PERMISSIVE, fuel);
         refused(&with(9), PARTIAL_TEST, last, 1);
-        refused(&with(0), FUEL_USED_UP, last, 0);
+        refused(&with(0), FUEL_SPENT, last, 0);
     }
 }
 
@@ -233,9 +233,9 @@ fn each_test_of_a_while_spends_a_unit() {
     let from_0 = |fuel| call(&sheet, &[whole(0, 0)], STRICT, fuel);
     done(&from_0(7), 7, &[whole(0, 3)]);
     // Nodes: 0 to 2 the test, 3 to 5 the sum, 6 the assignment, 7 the while.
-    refused(&from_0(6), FUEL_USED_UP, 7, 6);
-    refused(&from_0(5), FUEL_USED_UP, 6, 5);
-    refused(&from_0(0), FUEL_USED_UP, 7, 0);
+    refused(&from_0(6), FUEL_SPENT, 7, 6);
+    refused(&from_0(5), FUEL_SPENT, 6, 5);
+    refused(&from_0(0), FUEL_SPENT, 7, 0);
 }
 
 #[test]
@@ -261,24 +261,24 @@ fn an_expression_is_worked_out_before_its_context_is_judged() {
     );
     let sheet = Parts::of(&[3, 2], 2, command);
     let call = call(&sheet, &[whole(1, 1), whole(0, 0)], STRICT, 9);
-    refused(&call, DIVISOR, 3, 2);
+    refused(&call, DIVISOR_ZERO, 3, 2);
 }
 
 #[test]
 fn fuel_of_a_million_is_taken_and_used_up() {
     let sheet = Parts::of(&[1], 1, rounds(constant(1), skip()));
     let with = |fuel| call(&sheet, &[whole(0, 0)], STRICT, fuel);
-    refused(&with(1_000_000), FUEL_USED_UP, 2, 1_000_000);
-    refused(&with(999_999), FUEL_USED_UP, 1, 999_999);
+    refused(&with(1_000_000), FUEL_SPENT, 2, 1_000_000);
+    refused(&with(999_999), FUEL_SPENT, 1, 999_999);
     refused(&with(1_000_001), MODE_OR_FUEL, 0, 0);
-    refused(&with(0), FUEL_USED_UP, 2, 0);
+    refused(&with(0), FUEL_SPENT, 2, 0);
     let skip = Parts::of(&[1], 1, skip());
     done(
         &call(&skip, &[whole(0, 3)], STRICT, 1_000_000),
         1,
         &[whole(0, 3)],
     );
-    refused(&call(&skip, &[whole(0, 3)], STRICT, 0), FUEL_USED_UP, 0, 0);
+    refused(&call(&skip, &[whole(0, 3)], STRICT, 0), FUEL_SPENT, 0, 0);
 }
 
 /// Document 002's listing 3 over the lattice of its figure 7: L at the bottom,

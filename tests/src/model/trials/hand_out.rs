@@ -142,7 +142,7 @@ fn every_partial_field_refuses_top() {
 #[test]
 fn readers() {
     for reader in [4, 5, 15, 16, 19, 256, 65_536, u32::MAX] {
-        gives(REQUEST, 0, &quiet(reader, &[0]));
+        gives(READER_OR_REQUEST, 0, &quiet(reader, &[0]));
     }
 }
 
@@ -155,19 +155,19 @@ fn request_sizes_counts_and_field_numbers() {
     };
     let three = request(&[0, 1, 2]);
     for length in 0..8 {
-        gives(REQUEST, 0, &with(three[..length].to_vec()));
+        gives(READER_OR_REQUEST, 0, &with(three[..length].to_vec()));
     }
     for longer in [1, 2, 65_536] {
         let request = [three.clone(), vec![0; longer]].concat();
-        gives(REQUEST, 0, &with(request));
+        gives(READER_OR_REQUEST, 0, &with(request));
     }
     gives(DONE, 0, &with(request(&[0; 64])));
-    gives(REQUEST, 0, &with(request(&[0; 65])));
-    gives(REQUEST, 0, &with(request(&vec![0; 65_535])));
-    gives(REQUEST, 0, &with(vec![0xff, 0xff]));
+    gives(READER_OR_REQUEST, 0, &with(request(&[0; 65])));
+    gives(READER_OR_REQUEST, 0, &with(request(&vec![0; 65_535])));
+    gives(READER_OR_REQUEST, 0, &with(vec![0xff, 0xff]));
     for field in [8, 9, 64, 256, 65_535] {
-        gives(REQUEST, 0, &with(request(&[field])));
-        gives(REQUEST, 0, &with(request(&[0, field])));
+        gives(READER_OR_REQUEST, 0, &with(request(&[field])));
+        gives(READER_OR_REQUEST, 0, &with(request(&[0, field])));
     }
 }
 
@@ -176,7 +176,7 @@ fn output_lengths() {
     for short in 0..length(2) {
         let output = vec![9; short];
         let call = quiet(0, &[0, 1]);
-        gives(OUTPUT, 0, &HandOut { output, ..call });
+        gives(OUT_SHORT, 0, &HandOut { output, ..call });
     }
     let output = vec![9; 300];
     let call = quiet(0, &[0, 1]);
@@ -188,7 +188,7 @@ fn any_mark_it_knows() {
     for mark in 0..=255 {
         let mut call = quiet(0, &[1]);
         call.store[mark_at(0)] = mark;
-        gives(if of_diamond(mark) { DONE } else { MARK }, 0, &call);
+        gives(if of_diamond(mark) { DONE } else { MARK_WRONG }, 0, &call);
     }
 }
 
@@ -210,16 +210,16 @@ fn the_first_failing_row_in_the_order_is_told() {
     let mut call = quiet(0, &[7, 4]);
     gives(PARTIAL_ASKED, 1, &call);
     call.output.pop();
-    gives(OUTPUT, 0, &call);
+    gives(OUT_SHORT, 0, &call);
     call.reader = 4;
-    gives(REQUEST, 0, &call);
+    gives(READER_OR_REQUEST, 0, &call);
     call.store[mark_at(0)] = MOST_MARK + 1;
-    gives(MARK, 0, &call);
+    gives(MARK_WRONG, 0, &call);
     call.store.push(0);
-    gives(STORE, 0, &call);
+    gives(STORE_MISFIT, 0, &call);
     let last_place = call.sheet.len() - 1;
     call.sheet[last_place] = 1;
     gives(NODE_UNUSED, 0, &call);
     call.sheet.push(0);
-    gives(LENGTH, 0, &call);
+    gives(SHEET_LENGTH, 0, &call);
 }

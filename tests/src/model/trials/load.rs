@@ -60,29 +60,37 @@ fn answer_words_hold_number_place_and_units() {
 #[test]
 fn every_cut_and_every_byte_left_is_1() {
     for end in 0..EXAMPLE.len() {
-        assert_eq!(load(&EXAMPLE[..end]), Answer::plain(LENGTH), "cut at {end}");
+        assert_eq!(
+            load(&EXAMPLE[..end]),
+            Answer::plain(SHEET_LENGTH),
+            "cut at {end}"
+        );
     }
     for left in [1, 2, 8, 65_536] {
         let mut longer = EXAMPLE.to_vec();
         longer.resize(EXAMPLE.len() + left, 0);
-        assert_eq!(load(&longer), Answer::plain(LENGTH), "{left} bytes left");
+        assert_eq!(
+            load(&longer),
+            Answer::plain(SHEET_LENGTH),
+            "{left} bytes left"
+        );
     }
 }
 
 #[test]
 fn lengths_and_counts_come_in_byte_order() {
     let answers: [(&[u8], u8); 9] = [
-        (&[], LENGTH),
-        (&[17], LENGTH),
-        (&[17, 0], COUNT),
-        (&[0, 0], COUNT),
-        (&[1, 1], COUNT),
-        (&[2, 0, 3, 0], LENGTH),
+        (&[], SHEET_LENGTH),
+        (&[17], SHEET_LENGTH),
+        (&[17, 0], COUNT_OUTSIDE),
+        (&[0, 0], COUNT_OUTSIDE),
+        (&[1, 1], COUNT_OUTSIDE),
+        (&[2, 0, 3, 0], SHEET_LENGTH),
         // The rows are cut, so the next count, 0, is never reached.
-        (&[2, 0, 3, 0, 0], LENGTH),
-        (&[1, 0, 1, 0, 65, 0], COUNT),
+        (&[2, 0, 3, 0, 0], SHEET_LENGTH),
+        (&[1, 0, 1, 0, 65, 0], COUNT_OUTSIDE),
         // Bad rows do not come before the bad count behind them.
-        (&[1, 0, 0, 0, 0, 0], COUNT),
+        (&[1, 0, 0, 0, 0, 0], COUNT_OUTSIDE),
     ];
     for (bytes, number) in answers {
         assert_eq!(load(bytes), Answer::plain(number), "{bytes:?}");
@@ -93,9 +101,9 @@ fn lengths_and_counts_come_in_byte_order() {
 fn a_bad_count_comes_before_the_end_behind_it() {
     let mut cut = EXAMPLE[..24].to_vec();
     cut[22..24].copy_from_slice(&1025_u16.to_le_bytes());
-    assert_eq!(load(&cut), Answer::plain(COUNT));
+    assert_eq!(load(&cut), Answer::plain(COUNT_OUTSIDE));
     cut.pop();
-    assert_eq!(load(&cut), Answer::plain(LENGTH));
+    assert_eq!(load(&cut), Answer::plain(SHEET_LENGTH));
 }
 
 fn chain(levels: usize) -> Vec<u16> {
@@ -109,25 +117,25 @@ fn chain_within(levels: usize) -> Vec<u16> {
 
 #[test]
 fn one_to_sixteen_levels() {
-    rows_give(COUNT, &[]);
+    rows_give(COUNT_OUTSIDE, &[]);
     for levels in 1..=16 {
         rows_give(DONE, &chain_within(levels));
     }
-    rows_give(COUNT, &chain(17));
+    rows_give(COUNT_OUTSIDE, &chain(17));
 }
 
 #[test]
 fn one_to_sixty_four_fields() {
     let names: Vec<_> = (0..65).map(|i| name(&format!("f{i}"))).collect();
-    names_give(COUNT, &names[..0]);
+    names_give(COUNT_OUTSIDE, &names[..0]);
     names_give(DONE, &names[..1]);
     names_give(DONE, &names[..64]);
-    names_give(COUNT, &names);
+    names_give(COUNT_OUTSIDE, &names);
 }
 
 #[test]
 fn none_to_256_constants() {
-    for (constants, number) in [(0, DONE), (1, DONE), (256, DONE), (257, COUNT)] {
+    for (constants, number) in [(0, DONE), (1, DONE), (256, DONE), (257, COUNT_OUTSIDE)] {
         let constants = vec![-1; constants];
         gives(
             number,
@@ -169,15 +177,15 @@ fn bushy(skips: u16) -> Vec<[u16; 5]> {
 
 #[test]
 fn one_to_1024_nodes() {
-    nodes_give(COUNT, &[]);
+    nodes_give(COUNT_OUTSIDE, &[]);
     nodes_give(DONE, &[SKIP]);
     nodes_give(DONE, &bushy(512));
-    nodes_give(COUNT, &bushy(513));
+    nodes_give(COUNT_OUTSIDE, &bushy(513));
     let mut nodes = bushy(511);
     nodes.extend([CONSTANT, [9, 0, 1021, 1020, 0]]);
     nodes_give(DONE, &nodes);
     nodes.extend([SKIP, [7, 0, 1022, 1023, 0]]);
-    nodes_give(COUNT, &nodes);
+    nodes_give(COUNT_OUTSIDE, &nodes);
     let mut nodes = bushy(511);
     nodes.extend([CONSTANT, [3, 0, 1021, 0, 0], [9, 0, 1022, 1020, 0]]);
     assert_eq!(nodes.len(), 1024);
@@ -187,20 +195,20 @@ fn one_to_1024_nodes() {
 #[test]
 fn depth_to_64() {
     nodes_give(DONE, &sequences(64));
-    nodes_give(DEPTH, &sequences(65));
-    nodes_give(DEPTH, &sequences(512));
+    nodes_give(TOO_DEEP, &sequences(65));
+    nodes_give(TOO_DEEP, &sequences(512));
     nodes_give(DONE, &nots(64));
-    nodes_give(DEPTH, &nots(65));
-    nodes_give(DEPTH, &nots(1024));
+    nodes_give(TOO_DEEP, &nots(65));
+    nodes_give(TOO_DEEP, &nots(1024));
 }
 
 #[test]
 fn the_documents_levels() {
     rows_give(DONE, &[3, 2]);
     rows_give(DONE, &[15, 10, 12, 8]);
-    rows_give(LEVELS, &[7, 2, 4]);
+    rows_give(LEVELS_WRONG, &[7, 2, 4]);
     rows_give(DONE, &[1]);
-    rows_give(LEVELS, &[0]);
+    rows_give(LEVELS_WRONG, &[0]);
 }
 
 #[test]
@@ -216,20 +224,20 @@ fn levels_that_form_a_lattice_are_taken() {
 #[test]
 fn levels_that_break_a_law_are_3() {
     // A bit at the count, and the last bit.
-    rows_give(LEVELS, &[7, 2]);
-    rows_give(LEVELS, &[3, 0x8002]);
+    rows_give(LEVELS_WRONG, &[7, 2]);
+    rows_give(LEVELS_WRONG, &[3, 0x8002]);
     // The middle one of three not at or below itself.
-    rows_give(LEVELS, &[0b111, 0b100, 0b100]);
+    rows_give(LEVELS_WRONG, &[0b111, 0b100, 0b100]);
     // Each at or below the other.
-    rows_give(LEVELS, &[3, 3]);
+    rows_give(LEVELS_WRONG, &[3, 3]);
     // 1 below 2 below 3, but 1 not below 3; all joins and meets are there.
-    rows_give(LEVELS, &[0b11111, 0b10110, 0b11100, 0b11000, 0b10000]);
+    rows_give(LEVELS_WRONG, &[0b11111, 0b10110, 0b11100, 0b11000, 0b10000]);
     // Two levels under one top have no meet; two unrelated ones nothing.
-    rows_give(LEVELS, &[0b101, 0b110, 0b100]);
-    rows_give(LEVELS, &[1, 2]);
+    rows_give(LEVELS_WRONG, &[0b101, 0b110, 0b100]);
+    rows_give(LEVELS_WRONG, &[1, 2]);
     // 1 and 2 both below 3 and 4: upper bounds, none of them least.
     rows_give(
-        LEVELS,
+        LEVELS_WRONG,
         &[0b111111, 0b111010, 0b111100, 0b101000, 0b110000, 0b100000],
     );
 }
@@ -242,21 +250,21 @@ fn names() {
     for bad in [
         "", "_", "0", "Q", "{", "`", "a/", "a:", "a`", "a{", "aZ", "a ", "abcdefg-",
     ] {
-        names_give(NAME, &[name(bad)]);
+        names_give(NAME_WRONG, &[name(bad)]);
     }
-    names_give(NAME, &[*b"\0a\0\0\0\0\0\0"]);
-    names_give(NAME, &[*b"a\0b\0\0\0\0\0"]);
-    names_give(NAME, &[*b"a\0\0\0\0\0\0b"]);
-    names_give(NAME, &[*b"a\0\0\0\0\0\0\x01"]);
-    names_give(NAME, &[*b"a\xe1\0\0\0\0\0\0"]);
+    names_give(NAME_WRONG, &[*b"\0a\0\0\0\0\0\0"]);
+    names_give(NAME_WRONG, &[*b"a\0b\0\0\0\0\0"]);
+    names_give(NAME_WRONG, &[*b"a\0\0\0\0\0\0b"]);
+    names_give(NAME_WRONG, &[*b"a\0\0\0\0\0\0\x01"]);
+    names_give(NAME_WRONG, &[*b"a\xe1\0\0\0\0\0\0"]);
 }
 
 #[test]
 fn no_name_twice() {
     names_give(DONE, &[name("a"), name("aa"), name("ab")]);
     names_give(DONE, &[name("abcdefgh"), name("abcdefgi")]);
-    names_give(NAME, &[name("a"), name("b"), name("a")]);
-    names_give(NAME, &[name("abcdefgh"), name("abcdefgh")]);
+    names_give(NAME_WRONG, &[name("a"), name("b"), name("a")]);
+    names_give(NAME_WRONG, &[name("abcdefgh"), name("abcdefgh")]);
 }
 
 /// For each kind, the nodes of a small right sheet with that kind in it.
@@ -407,7 +415,7 @@ fn a_node_is_looked_at_for_19_to_22_in_this_order() {
         nodes_give_at(2, number, &nodes);
         nodes[2][part] = right;
     }
-    nodes_give(USE, &nodes);
+    nodes_give(NOT_USED_ONCE, &nodes);
     // All of a node is looked at for one number before the next.
     nodes_give_at(0, NODE_UNUSED, &[[1, 0, 9, 0, 1]]);
     nodes_give_at(0, NODE_UNUSED, &[[6, 1, 9, 9, 0]]);
@@ -441,32 +449,32 @@ fn the_lowest_faulty_node_is_told() {
 #[test]
 fn nodes_are_used_once_and_the_last_is_a_command() {
     // Used twice, never, both at once.
-    nodes_give(USE, &[SKIP, [7, 0, 0, 0, 0]]);
-    nodes_give(USE, &[SKIP, SKIP]);
-    nodes_give(USE, &[SKIP, SKIP, [7, 0, 1, 1, 0]]);
+    nodes_give(NOT_USED_ONCE, &[SKIP, [7, 0, 0, 0, 0]]);
+    nodes_give(NOT_USED_ONCE, &[SKIP, SKIP]);
+    nodes_give(NOT_USED_ONCE, &[SKIP, SKIP, [7, 0, 1, 1, 0]]);
     // An expression last.
-    nodes_give(USE, &[CONSTANT]);
-    nodes_give(USE, &[FIELD, [3, 0, 0, 0, 0]]);
-    nodes_give(USE, &[FIELD, [6, 0, 0, 0, 0], CONSTANT]);
+    nodes_give(NOT_USED_ONCE, &[CONSTANT]);
+    nodes_give(NOT_USED_ONCE, &[FIELD, [3, 0, 0, 0, 0]]);
+    nodes_give(NOT_USED_ONCE, &[FIELD, [6, 0, 0, 0, 0], CONSTANT]);
 }
 
 #[test]
 fn the_first_failing_row_in_the_order_is_told() {
     let mut parts = plain();
     parts.nodes = nots(65);
-    gives(DEPTH, &parts);
+    gives(TOO_DEEP, &parts);
     parts.nodes.insert(65, SKIP);
     parts.nodes.swap(64, 65);
-    gives(USE, &parts);
+    gives(NOT_USED_ONCE, &parts);
     parts.nodes[0][4] = 1;
     gives(NODE_UNUSED, &parts);
     parts.names[0][0] = b'_';
-    gives(NAME, &parts);
+    gives(NAME_WRONG, &parts);
     parts.rows[0] = 0;
-    gives(LEVELS, &parts);
+    gives(LEVELS_WRONG, &parts);
     let mut bytes = parts.bytes();
     bytes.push(0);
-    assert_eq!(load(&bytes), Answer::plain(LENGTH));
+    assert_eq!(load(&bytes), Answer::plain(SHEET_LENGTH));
     bytes[0] = 0;
-    assert_eq!(load(&bytes), Answer::plain(COUNT));
+    assert_eq!(load(&bytes), Answer::plain(COUNT_OUTSIDE));
 }

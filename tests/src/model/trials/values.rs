@@ -17,7 +17,7 @@ fn worked_out(expression: Tree) -> Result<i32, (u8, u16)> {
 
 /// The operator stands behind its two constants, so its node number is 2.
 const RANGE: Result<i32, (u8, u16)> = Err((OUT_OF_RANGE, 2));
-const ZERO: Result<i32, (u8, u16)> = Err((DIVISOR, 2));
+const ZERO: Result<i32, (u8, u16)> = Err((DIVISOR_ZERO, 2));
 
 #[track_caller]
 fn gives(op: u8, left: i32, right: i32, result: Result<i32, (u8, u16)>) {
@@ -167,14 +167,14 @@ fn both_sides_are_worked_out_and_the_first_stop_is_told() {
         let left_first = operator(op, too_great(), five_over_zero());
         assert_eq!(worked_out(left_first), Err((OUT_OF_RANGE, 2)));
         let left_first = operator(op, five_over_zero(), too_great());
-        assert_eq!(worked_out(left_first), Err((DIVISOR, 2)));
+        assert_eq!(worked_out(left_first), Err((DIVISOR_ZERO, 2)));
         let right = operator(op, constant(0), five_over_zero());
-        assert_eq!(worked_out(right), Err((DIVISOR, 3)));
+        assert_eq!(worked_out(right), Err((DIVISOR_ZERO, 3)));
         let right = operator(op, constant(1), too_great());
         assert_eq!(worked_out(right), Err((OUT_OF_RANGE, 3)));
     }
     assert_eq!(worked_out(not(too_great())), Err((OUT_OF_RANGE, 2)));
-    assert_eq!(worked_out(seal(five_over_zero())), Err((DIVISOR, 2)));
+    assert_eq!(worked_out(seal(five_over_zero())), Err((DIVISOR_ZERO, 2)));
 }
 
 #[test]

@@ -6,7 +6,7 @@ use crate::model::hand_out::rules::{length, DOCUMENT, MOST_ASKED};
 use crate::model::hand_out::{asked, request, NUMBER_BYTES};
 use crate::model::levels::Levels;
 use crate::model::marks::{level_of, Mark, MOST_MARK};
-use crate::model::number::{DONE, MARK, OUTPUT, PARTIAL_ASKED, REQUEST};
+use crate::model::number::{DONE, MARK_WRONG, OUT_SHORT, PARTIAL_ASKED, READER_OR_REQUEST};
 use crate::model::rules as run;
 use crate::model::run::Mode;
 use crate::model::sheet::{Sheet, COUNT_BYTES};
@@ -198,7 +198,7 @@ const MAKING: Faults<Making<HandOut>> = &[
             }
         }
         match right.answer.number {
-            MARK => hand_out(&mistaken),
+            MARK_WRONG => hand_out(&mistaken),
             _ => right,
         }
     }),
@@ -206,13 +206,17 @@ const MAKING: Faults<Making<HandOut>> = &[
         let mut fields: Vec<usize> = asked(&call.request).collect();
         fields.sort_unstable();
         let repeated = fields.windows(2).any(|two| two[0] == two[1]);
-        refusing(right, REQUEST, repeated)
+        refusing(right, READER_OR_REQUEST, repeated)
     }),
     ("no more asked than there are fields", |call, right| {
         let fields = fields_and_levels(call).map_or(0, |(fields, _)| fields);
-        refusing(right, REQUEST, asked(&call.request).count() > fields)
+        refusing(
+            right,
+            READER_OR_REQUEST,
+            asked(&call.request).count() > fields,
+        )
     }),
     ("an output as long as the store asked for", |call, right| {
-        refusing(right, OUTPUT, call.output.len() < call.store.len())
+        refusing(right, OUT_SHORT, call.output.len() < call.store.len())
     }),
 ];

@@ -4,7 +4,7 @@ use super::WrongHandOut;
 use crate::model::hand_out::asked;
 use crate::model::hand_out::rules::{length, DOCUMENT};
 use crate::model::marks::Mark;
-use crate::model::number::{MARK, OUTPUT, PARTIAL_ASKED, REQUEST, STORE};
+use crate::model::number::{MARK_WRONG, OUT_SHORT, PARTIAL_ASKED, READER_OR_REQUEST, STORE_MISFIT};
 use crate::model::sheet::Sheet;
 use crate::model::store::{count, entries};
 use crate::model::HandOut;
@@ -19,18 +19,18 @@ pub fn hand_outs() -> Vec<WrongHandOut> {
 /// The later rows in the order of checks. What a store and a request must be is
 /// known only if the sheet can be read.
 const LATER: [Row<HandOut>; 5] = [
-    (STORE, |call| {
+    (STORE_MISFIT, |call| {
         sheet_of(call).is_some_and(|sheet| !(DOCUMENT.store_fits)(&sheet, &call.store))
     }),
-    (MARK, |call| {
+    (MARK_WRONG, |call| {
         let mut marks = entries(&call.store).map(|(mark, _)| mark);
         let sheet = sheet_of(call);
         sheet.is_some_and(|sheet| marks.any(|mark| !(DOCUMENT.mark_is_right)(&sheet, mark)))
     }),
-    (REQUEST, |call| {
+    (READER_OR_REQUEST, |call| {
         sheet_of(call).is_some_and(|sheet| request_fails(&sheet, call))
     }),
-    (OUTPUT, |call| {
+    (OUT_SHORT, |call| {
         let count = count(&call.request);
         count.is_some_and(|count| call.output.len() < length(count))
     }),

@@ -5,7 +5,7 @@ use super::entries::Entry;
 use super::WrongHandOut;
 use crate::model::hand_out::rules::{Rules, DOCUMENT};
 use crate::model::hand_out::Asked;
-use crate::model::number::{MARK, PARTIAL_ASKED};
+use crate::model::number::{MARK_WRONG, PARTIAL_ASKED};
 use crate::model::store::Marked;
 use crate::model::{Answer, HandOut};
 use crate::wrong::calls::{in_rules, Answering, Faults};
@@ -242,7 +242,7 @@ const NOT_REFUSED: Faults<Rules> = &[
 
 const ANSWERS: Faults<Answering<HandOut>> = &[
     ("9 for 18", |_, answer| match answer.number {
-        PARTIAL_ASKED => Answer::plain(MARK),
+        PARTIAL_ASKED => Answer::plain(MARK_WRONG),
         _ => answer,
     }),
     ("a unit on 18", |_, answer| Answer {

@@ -3,7 +3,7 @@
 use super::WrongHandOut;
 use crate::model::hand_out::rules::{length, Rules, DOCUMENT};
 use crate::model::hand_out::{asked, hand_out_by, request, Asked};
-use crate::model::number::{DONE, NODE_RANGE, OUTPUT, PARTIAL_ASKED, REQUEST};
+use crate::model::number::{DONE, NODE_RANGE, OUT_SHORT, PARTIAL_ASKED, READER_OR_REQUEST};
 use crate::model::sheet::COUNT_BYTES;
 use crate::model::{Answer, HandOut, Outcome};
 use crate::wrong::calls::{self, fitting, value_of};
@@ -159,13 +159,13 @@ const ON_REFUSAL: Faults<Spoiling<HandOut>> = &[
     ),
     ("the request written on 17", |call, answer| {
         match answer.number {
-            REQUEST => fitting(call, &call.request),
+            READER_OR_REQUEST => fitting(call, &call.request),
             _ => Vec::new(),
         }
     }),
     ("the count written on 11", |call, answer| {
         match answer.number {
-            OUTPUT => fitting(call, &call.request[..2]),
+            OUT_SHORT => fitting(call, &call.request[..2]),
             _ => Vec::new(),
         }
     }),
@@ -177,7 +177,7 @@ const FIXED: Faults<Making<HandOut>> = &[
     }),
     ("every request refused", |_, right| {
         match right.answer.number {
-            DONE => Outcome::refused(Answer::plain(REQUEST)),
+            DONE => Outcome::refused(Answer::plain(READER_OR_REQUEST)),
             _ => right,
         }
     }),
@@ -204,7 +204,7 @@ const ANSWERS: Faults<Answering<HandOut>> = &[
         let fields = usize::from(call.store.first().copied().unwrap_or(0));
         let wrong = asked(&call.request).position(|field| field >= fields);
         match answer.number {
-            REQUEST => Answer {
+            READER_OR_REQUEST => Answer {
                 place: wrong.unwrap_or(0) as u16,
                 ..answer
             },

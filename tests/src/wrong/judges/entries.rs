@@ -2,7 +2,7 @@
 
 use super::WrongJudge;
 use crate::model::nodes::{fault_of, first_fault, first_fault_by, Law, Place, KINDS, LAWS};
-use crate::model::number::{DONE, LEVELS, NAME, NODE_UNKNOWN};
+use crate::model::number::{DONE, LEVELS_WRONG, NAME_WRONG, NODE_UNKNOWN};
 use crate::model::sheet::{Node, Sheet};
 use crate::model::{levels, names};
 
@@ -23,13 +23,13 @@ pub fn judges() -> Vec<WrongJudge> {
 fn laws_overlooked() -> Vec<WrongJudge> {
     let level_laws = levels::LAWS.iter().map(|&(out, _)| {
         let name = format!("levels: '{out}' overlooked");
-        WrongJudge::confusing_sheets(name, (LEVELS, DONE), move |sheet| {
+        WrongJudge::confusing_sheets(name, (LEVELS_WRONG, DONE), move |sheet| {
             others(&levels::LAWS, out).all(|law| law(&sheet.levels))
         })
     });
     let name_laws = names::LAWS.iter().map(|&(out, _)| {
         let name = format!("names: '{out}' overlooked");
-        WrongJudge::confusing_sheets(name, (NAME, DONE), move |sheet| {
+        WrongJudge::confusing_sheets(name, (NAME_WRONG, DONE), move |sheet| {
             others(&names::LAWS, out).all(|law| law(&sheet.fields))
         })
     });
@@ -54,7 +54,7 @@ fn others<Law>(
 fn names_misread() -> Vec<WrongJudge> {
     let refused = |character: u8| {
         let name = format!("names with {:?} refused", char::from(character));
-        WrongJudge::confusing_sheets(name, (DONE, NAME), move |sheet| {
+        WrongJudge::confusing_sheets(name, (DONE, NAME_WRONG), move |sheet| {
             sheet.fields.iter().flatten().any(|&byte| byte == character)
         })
     };
@@ -63,15 +63,24 @@ fn names_misread() -> Vec<WrongJudge> {
         .map(|&character| refused(character))
         .collect();
     judges.extend([
-        WrongJudge::confusing_sheets("only neighbours' names compared", (NAME, DONE), |sheet| {
-            let neighbours_differ = sheet.fields.windows(2).all(|pair| pair[0] != pair[1]);
-            others(&names::LAWS, "no name twice").all(|law| law(&sheet.fields)) && neighbours_differ
-        }),
-        WrongJudge::confusing_sheets("seven bytes of names compared", (DONE, NAME), |sheet| {
-            let starts: Vec<&[u8]> = sheet.fields.iter().map(|name| &name[..7]).collect();
-            (0..starts.len()).any(|end| starts[..end].contains(&starts[end]))
-        }),
-        WrongJudge::confusing_sheets("names of eight refused", (DONE, NAME), |sheet| {
+        WrongJudge::confusing_sheets(
+            "only neighbours' names compared",
+            (NAME_WRONG, DONE),
+            |sheet| {
+                let neighbours_differ = sheet.fields.windows(2).all(|pair| pair[0] != pair[1]);
+                others(&names::LAWS, "no name twice").all(|law| law(&sheet.fields))
+                    && neighbours_differ
+            },
+        ),
+        WrongJudge::confusing_sheets(
+            "seven bytes of names compared",
+            (DONE, NAME_WRONG),
+            |sheet| {
+                let starts: Vec<&[u8]> = sheet.fields.iter().map(|name| &name[..7]).collect();
+                (0..starts.len()).any(|end| starts[..end].contains(&starts[end]))
+            },
+        ),
+        WrongJudge::confusing_sheets("names of eight refused", (DONE, NAME_WRONG), |sheet| {
             sheet.fields.iter().any(|name| name[7] != 0)
         }),
     ]);

@@ -3,7 +3,9 @@
 use super::WrongJudge;
 use crate::model::levels::{Levels, LAWS};
 use crate::model::nodes::first_fault;
-use crate::model::number::{COUNT, DONE, LENGTH, LEVELS, OF_NODES, USE};
+use crate::model::number::{
+    COUNT_OUTSIDE, DONE, LEVELS_WRONG, NOT_USED_ONCE, OF_NODES, SHEET_LENGTH,
+};
 use crate::model::sheet::{Section, Sheet, SECTIONS};
 use crate::model::tree::last_is_a_command;
 use crate::model::{load, Answer, CHECKS};
@@ -12,13 +14,15 @@ pub fn judges() -> Vec<WrongJudge> {
     let mut judges = checks_exchanged();
     judges.extend([
         WrongJudge::instead_of(OF_NODES, "6 before 19 to 22", |sheet| {
-            (!last_is_a_command(sheet)).then(|| Answer::plain(USE))
+            (!last_is_a_command(sheet)).then(|| Answer::plain(NOT_USED_ONCE))
         }),
-        WrongJudge::confusing("3 before 1", (LENGTH, LEVELS), levels_fail),
-        WrongJudge::confusing("3 before 2", (COUNT, LEVELS), levels_fail),
-        WrongJudge::confusing("limits after the lengths", (COUNT, LENGTH), |bytes| {
-            Sheet::read_within(bytes, &without_limits()).is_err()
-        }),
+        WrongJudge::confusing("3 before 1", (SHEET_LENGTH, LEVELS_WRONG), levels_fail),
+        WrongJudge::confusing("3 before 2", (COUNT_OUTSIDE, LEVELS_WRONG), levels_fail),
+        WrongJudge::confusing(
+            "limits after the lengths",
+            (COUNT_OUTSIDE, SHEET_LENGTH),
+            |bytes| Sheet::read_within(bytes, &without_limits()).is_err(),
+        ),
         bytes_left_come_last(),
     ]);
     judges
@@ -69,12 +73,12 @@ fn without_limits() -> [Section; 4] {
 /// A byte left is told only if the sheet is right without it.
 fn bytes_left_come_last() -> WrongJudge {
     WrongJudge::new("bytes left come last", |bytes, answer| {
-        if answer.number != LENGTH || bytes.is_empty() {
+        if answer.number != SHEET_LENGTH || bytes.is_empty() {
             return answer;
         }
         let without = load(&bytes[..bytes.len() - 1]);
         match without.number {
-            DONE | LENGTH | COUNT => answer,
+            DONE | SHEET_LENGTH | COUNT_OUTSIDE => answer,
             _ => without,
         }
     })

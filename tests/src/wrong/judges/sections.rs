@@ -1,7 +1,7 @@
 //! Judges wrong about lengths and counts.
 
 use super::WrongJudge;
-use crate::model::number::{COUNT, DONE, LENGTH};
+use crate::model::number::{COUNT_OUTSIDE, DONE, SHEET_LENGTH};
 use crate::model::sheet::{Section, Sheet, COUNT_BYTES, SECTIONS};
 use crate::model::{load, Answer};
 
@@ -23,18 +23,20 @@ fn takes(bytes: &[u8]) -> bool {
 fn lengths() -> Vec<WrongJudge> {
     vec![
         WrongJudge::new("everything is taken", |_, _| Answer::plain(DONE)),
-        WrongJudge::new("everything is refused", |_, _| Answer::plain(LENGTH)),
-        WrongJudge::confusing("nothing is taken", (LENGTH, DONE), |bytes| bytes.is_empty()),
-        WrongJudge::confusing("bytes left are taken", (LENGTH, DONE), |bytes| {
+        WrongJudge::new("everything is refused", |_, _| Answer::plain(SHEET_LENGTH)),
+        WrongJudge::confusing("nothing is taken", (SHEET_LENGTH, DONE), |bytes| {
+            bytes.is_empty()
+        }),
+        WrongJudge::confusing("bytes left are taken", (SHEET_LENGTH, DONE), |bytes| {
             end_of_sections(bytes).is_some_and(|end| takes(&bytes[..end]))
         }),
-        WrongJudge::confusing("one byte left is taken", (LENGTH, DONE), |bytes| {
+        WrongJudge::confusing("one byte left is taken", (SHEET_LENGTH, DONE), |bytes| {
             !bytes.is_empty() && takes(&bytes[..bytes.len() - 1])
         }),
-        WrongJudge::confusing("a byte short is taken", (LENGTH, DONE), |bytes| {
+        WrongJudge::confusing("a byte short is taken", (SHEET_LENGTH, DONE), |bytes| {
             takes(&[bytes, &[0]].concat())
         }),
-        WrongJudge::confusing("a length in two bytes", (LENGTH, DONE), |bytes| {
+        WrongJudge::confusing("a length in two bytes", (SHEET_LENGTH, DONE), |bytes| {
             takes(&bytes[..bytes.len() % 65_536])
         }),
     ]
@@ -85,13 +87,13 @@ fn too_wide(name: String, section: usize, lower: usize, higher: usize) -> WrongJ
     let mut sections = SECTIONS;
     sections[section].least -= lower;
     sections[section].most += higher;
-    WrongJudge::confusing(name, (COUNT, DONE), move |bytes| {
+    WrongJudge::confusing(name, (COUNT_OUTSIDE, DONE), move |bytes| {
         Sheet::read_within(bytes, &sections).is_ok()
     })
 }
 
 fn too_narrow(name: String, section: usize, limit: usize) -> WrongJudge {
-    WrongJudge::confusing_sheets(name, (DONE, COUNT), move |sheet| {
+    WrongJudge::confusing_sheets(name, (DONE, COUNT_OUTSIDE), move |sheet| {
         let counts = [
             sheet.levels.count(),
             sheet.fields.len(),

@@ -2,7 +2,7 @@
 
 use super::WrongJudge;
 use crate::model::nodes::{Place, Sort};
-use crate::model::number::{DEPTH, DONE, USE};
+use crate::model::number::{DONE, NOT_USED_ONCE, TOO_DEEP};
 use crate::model::sheet::Sheet;
 use crate::model::tree::{depths, last_is_a_command, uses, MOST_DEPTH};
 
@@ -16,7 +16,7 @@ pub fn judges() -> Vec<WrongJudge> {
 /// Says done for a wrong use where the last is a command and the uses of the
 /// others are so.
 fn misusing(name: &str, so: impl Fn(&[usize]) -> bool + 'static) -> WrongJudge {
-    WrongJudge::confusing_sheets(name, (USE, DONE), move |sheet| {
+    WrongJudge::confusing_sheets(name, (NOT_USED_ONCE, DONE), move |sheet| {
         let uses = uses(sheet);
         last_is_a_command(sheet) && so(&uses[..uses.len() - 1])
     })
@@ -28,7 +28,7 @@ fn all_once(uses: &[usize]) -> bool {
 
 fn uses_misjudged() -> Vec<WrongJudge> {
     vec![
-        WrongJudge::confusing_sheets("an expression last", (USE, DONE), |sheet| {
+        WrongJudge::confusing_sheets("an expression last", (NOT_USED_ONCE, DONE), |sheet| {
             let uses = uses(sheet);
             all_once(&uses[..uses.len() - 1])
         }),
@@ -52,16 +52,16 @@ fn deepest(sheet: &Sheet) -> usize {
 
 fn depth_misjudged() -> Vec<WrongJudge> {
     vec![
-        WrongJudge::confusing_sheets("depth 65 taken", (DEPTH, DONE), |sheet| {
+        WrongJudge::confusing_sheets("depth 65 taken", (TOO_DEEP, DONE), |sheet| {
             deepest(sheet) == MOST_DEPTH + 1
         }),
-        WrongJudge::confusing_sheets("depth 64 refused", (DONE, DEPTH), |sheet| {
+        WrongJudge::confusing_sheets("depth 64 refused", (DONE, TOO_DEEP), |sheet| {
             deepest(sheet) == MOST_DEPTH
         }),
-        WrongJudge::confusing_sheets("depth over 65 taken", (DEPTH, DONE), |sheet| {
+        WrongJudge::confusing_sheets("depth over 65 taken", (TOO_DEEP, DONE), |sheet| {
             deepest(sheet) > MOST_DEPTH + 1
         }),
-        WrongJudge::confusing_sheets("depth in one byte", (DEPTH, DONE), |sheet| {
+        WrongJudge::confusing_sheets("depth in one byte", (TOO_DEEP, DONE), |sheet| {
             deepest(sheet) % 256 <= MOST_DEPTH
         }),
         depth_of(Sort::Command, "only depth of commands"),
@@ -71,7 +71,7 @@ fn depth_misjudged() -> Vec<WrongJudge> {
 
 /// Looks only at the depth of nodes of one sort.
 fn depth_of(sort: Sort, name: &str) -> WrongJudge {
-    WrongJudge::confusing_sheets(name, (DEPTH, DONE), move |sheet| {
+    WrongJudge::confusing_sheets(name, (TOO_DEEP, DONE), move |sheet| {
         let nodes = sheet.nodes.iter().zip(depths(sheet));
         nodes
             .filter(|(node, _)| node.sort() == Some(sort))
@@ -83,7 +83,7 @@ fn depth_of(sort: Sort, name: &str) -> WrongJudge {
 fn place_not_deeper(place: usize) -> WrongJudge {
     let letter = ["a", "b", "c"][place];
     let name = format!("a child in place {letter} no deeper");
-    WrongJudge::confusing_sheets(name, (DEPTH, DONE), move |sheet| {
+    WrongJudge::confusing_sheets(name, (TOO_DEEP, DONE), move |sheet| {
         let mut depths = vec![1; sheet.nodes.len()];
         for number in (0..sheet.nodes.len()).rev() {
             for (at, (holds, child)) in sheet.nodes[number].held().enumerate() {

@@ -1,7 +1,7 @@
 //! Runners wrong about the answer: units, places, or everything.
 
 use super::{Faults, Named, WrongRunner};
-use crate::model::number::{DONE, FUEL_USED_UP, NODE_RANGE, OUT_OF_RANGE, PARTIAL_TEST, STOPS};
+use crate::model::number::{DONE, FUEL_SPENT, NODE_RANGE, OUT_OF_RANGE, PARTIAL_TEST, STOPS};
 use crate::model::rules::MOST_FUEL;
 use crate::model::sheet::{Node, Sheet};
 use crate::model::{run, Answer, Call, Outcome};
@@ -34,7 +34,7 @@ const UNITS: Faults<Answering<Call>> = &[
         ..answer
     }),
     ("used up fuel has spent a unit more", |_, answer| Answer {
-        units: answer.units + u32::from(answer.number == FUEL_USED_UP),
+        units: answer.units + u32::from(answer.number == FUEL_SPENT),
         ..answer
     }),
     (
@@ -99,7 +99,7 @@ const RUN_AGAIN: Faults<Making<Call>> = &[
     }),
     (
         "a unit more than the fuel can be spent",
-        |call, right| match right.answer.number == FUEL_USED_UP && call.fuel < MOST_FUEL {
+        |call, right| match right.answer.number == FUEL_SPENT && call.fuel < MOST_FUEL {
             true => with_fuel(call, call.fuel + 1),
             false => right,
         },

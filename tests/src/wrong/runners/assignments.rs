@@ -3,12 +3,12 @@
 use super::{in_rules, Faults, WrongRunner};
 use crate::model::levels::Levels;
 use crate::model::marks::{join, meet, Mark};
-use crate::model::number::{CONTEXT, PARTIAL_TEST};
+use crate::model::number::{NOT_BELOW, PARTIAL_TEST};
 use crate::model::rules::{Assigned, DOCUMENT};
 use crate::model::run::Mode;
 
 pub fn runners() -> Vec<WrongRunner> {
-    let faults = [LYING_BELOW, BELOW, NOT_BELOW, STOPS].concat();
+    let faults = [LYING_BELOW, BELOW, CONTEXT_NOT_BELOW, STOPS].concat();
     in_rules! { crate::model::rules; mark_of_assigned: &faults }
 }
 
@@ -37,7 +37,7 @@ fn met(levels: &Levels, assigned: Assigned) -> usize {
 fn said(below: bool, levels: &Levels, mode: Mode, assigned: Assigned) -> Result<Mark, u8> {
     match (below, mode) {
         (true, _) => Ok(joined(levels, assigned)),
-        (false, Mode::Strict) => Err(CONTEXT),
+        (false, Mode::Strict) => Err(NOT_BELOW),
         (false, Mode::Permissive) => Ok(Mark::partial(met(levels, assigned))),
     }
 }
@@ -129,7 +129,7 @@ fn upgraded(levels: &Levels, mode: Mode, assigned: Assigned, mark: Mark) -> Resu
     }
 }
 
-const NOT_BELOW: Faults<Assign> = &[
+const CONTEXT_NOT_BELOW: Faults<Assign> = &[
     ("A kept instead of the meet", |levels, mode, assigned| {
         let kept = Mark::partial(assigned.field.level);
         upgraded(levels, mode, assigned, kept)

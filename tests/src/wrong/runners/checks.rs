@@ -3,7 +3,7 @@
 use super::{in_rules, Faults, Named, WrongRunner};
 use crate::compare::effect::GUARD;
 use crate::model::marks::{level_of, Mark, MOST_MARK, PARTIAL};
-use crate::model::number::STORE;
+use crate::model::number::STORE_MISFIT;
 use crate::model::rules::{DOCUMENT, MOST_FUEL};
 use crate::model::run::Mode;
 use crate::model::sheet::{Sheet, COUNT_BYTES};
@@ -76,7 +76,7 @@ const SHORT_STORE: Named<Making<Call>> = ("a store a byte short taken", |call, r
     let mut longer = call.clone();
     longer.store.push(0);
     match right.answer.number {
-        STORE => run(&longer),
+        STORE_MISFIT => run(&longer),
         _ => right,
     }
 });

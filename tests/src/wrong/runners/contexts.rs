@@ -3,7 +3,7 @@
 use super::{in_rules, Faults, WrongRunner};
 use crate::model::levels::Levels;
 use crate::model::marks::{join, Mark};
-use crate::model::number::{CONTEXT, PARTIAL_TEST};
+use crate::model::number::{NOT_BELOW, PARTIAL_TEST};
 use crate::model::rules::{Contexts, DOCUMENT};
 use crate::model::typed::Command;
 
@@ -51,7 +51,7 @@ const BODIES: Faults<Body> = &[
     (
         "15 for a partial test",
         |levels, context, test| match test.partial {
-            true => Err(CONTEXT),
+            true => Err(NOT_BELOW),
             false => Ok(join(levels, context, test.level)),
         },
     ),

@@ -22,13 +22,13 @@ fn rows() -> Vec<Row<Call>> {
         !(DOCUMENT.mode_and_fuel_are_right)(call.mode, call.fuel)
     });
     let later: [Row<Call>; 3] = [
-        (STORE, |call| {
+        (STORE_MISFIT, |call| {
             sheet_of(call).is_some_and(|sheet| !(DOCUMENT.store_fits)(&sheet, &call.store))
         }),
-        (MARK, |call| {
+        (MARK_WRONG, |call| {
             sheet_of(call).is_some_and(|sheet| marks_fail(&sheet, call))
         }),
-        (OUTPUT, |call| {
+        (OUT_SHORT, |call| {
             let length = call.output.len();
             sheet_of(call).is_some_and(|sheet| !(DOCUMENT.output_is_long_enough)(&sheet, length))
         }),
@@ -54,7 +54,7 @@ fn marks_fail(sheet: &Sheet, call: &Call) -> bool {
 const LATE: Faults<Making<Call>> = &[
     ("11 only if there is something to write", |call, right| {
         let late = whatever_the_output(call);
-        match right.answer.number == OUTPUT && late.number != DONE {
+        match right.answer.number == OUT_SHORT && late.number != DONE {
             true => Outcome::refused(late),
             false => right,
         }
@@ -62,7 +62,7 @@ const LATE: Faults<Making<Call>> = &[
     ("11 with the units of the run", |call, right| {
         let units = whatever_the_output(call).units;
         match right.answer.number {
-            OUTPUT => Outcome::refused(Answer {
+            OUT_SHORT => Outcome::refused(Answer {
                 units,
                 ..right.answer
             }),
@@ -72,18 +72,18 @@ const LATE: Faults<Making<Call>> = &[
     ("15 before 13 and 14", |call, right| {
         let Answer { number, units, .. } = right.answer;
         let unstopped = never_stopped_by_an_operator(call);
-        let in_an_expression = number == OUT_OF_RANGE || number == DIVISOR;
-        match in_an_expression && unstopped.number == CONTEXT && unstopped.units == units {
+        let in_an_expression = number == OUT_OF_RANGE || number == DIVISOR_ZERO;
+        match in_an_expression && unstopped.number == NOT_BELOW && unstopped.units == units {
             true => Outcome::refused(unstopped),
             false => right,
         }
     }),
     ("13 to 16 before 12", |call, right| {
         let stop = match right.answer.number {
-            FUEL_USED_UP => with_a_unit_more(call),
+            FUEL_SPENT => with_a_unit_more(call),
             _ => right.answer,
         };
-        match stop.number > FUEL_USED_UP && stop.units > call.fuel {
+        match stop.number > FUEL_SPENT && stop.units > call.fuel {
             true => Outcome::refused(Answer {
                 units: call.fuel,
                 ..stop

@@ -3,7 +3,7 @@
 
 use super::{in_rules, Faults, WrongRunner};
 use crate::model::follow::{Run, Stop};
-use crate::model::number::{DIVISOR, OUT_OF_RANGE};
+use crate::model::number::{DIVISOR_ZERO, OUT_OF_RANGE};
 use crate::model::rules::Sides;
 use crate::model::values::{in_range, operate, quotient, Operator, GREATEST, LEAST};
 use Operator::*;
@@ -215,7 +215,7 @@ const DIVISIONS: Faults<Operate> = &[
     }),
     ("14 for the least by -1", |operator, left, right| {
         match (operator, left, right) {
-            (Divide, LEAST, -1) => Err(DIVISOR),
+            (Divide, LEAST, -1) => Err(DIVISOR_ZERO),
             _ => operate(operator, left, right),
         }
     }),

@@ -2,7 +2,7 @@
 
 use super::{Faults, WrongRunner};
 use crate::model::marks::PARTIAL;
-use crate::model::number::{FUEL_USED_UP, MARK, OUTPUT, PARTIAL_TEST};
+use crate::model::number::{FUEL_SPENT, MARK_WRONG, OUT_SHORT, PARTIAL_TEST};
 use crate::model::rules::DOCUMENT;
 use crate::model::run::Start;
 use crate::model::sheet::COUNT_BYTES;
@@ -52,7 +52,7 @@ const ON_REFUSAL: Faults<Spoiling<Call>> = &[
     (
         "the start store written on a stop",
         |call, answer| match answer.number {
-            FUEL_USED_UP..=PARTIAL_TEST => call.store.clone(),
+            FUEL_SPENT..=PARTIAL_TEST => call.store.clone(),
             _ => Vec::new(),
         },
     ),
@@ -65,13 +65,13 @@ const ON_REFUSAL: Faults<Spoiling<Call>> = &[
     ),
     ("what fits written on 11", |call, answer| {
         match answer.number {
-            OUTPUT => fitting(call, &call.store),
+            OUT_SHORT => fitting(call, &call.store),
             _ => Vec::new(),
         }
     }),
     ("the count written on 9", |call, answer| {
         match answer.number {
-            MARK => fitting(call, &call.store[..COUNT_BYTES]),
+            MARK_WRONG => fitting(call, &call.store[..COUNT_BYTES]),
             _ => Vec::new(),
         }
     }),

@@ -4,7 +4,7 @@ use super::lists::*;
 use super::{some_of, Change, CountChange, Damage, ListChange};
 use crate::model::hand_out::rules::MOST_ASKED;
 use crate::model::hand_out::NUMBER_BYTES;
-use crate::model::number::REQUEST;
+use crate::model::number::READER_OR_REQUEST;
 use crate::model::sheet::{Sheet, COUNT_BYTES};
 use crate::model::HandOut;
 use crate::random::Random;
@@ -16,17 +16,21 @@ fn asked(call: &mut HandOut) -> &mut Vec<u8> {
 /// Damages to calls of hand-out.
 impl Damage<HandOut> {
     const fn to_request(name: &'static str, change: ListChange) -> Damage<HandOut> {
-        Damage::new(name, REQUEST, Change::List(asked, change))
+        Damage::new(name, READER_OR_REQUEST, Change::List(asked, change))
     }
 
     const fn to_request_count(name: &'static str, change: CountChange) -> Damage<HandOut> {
-        Damage::new(name, REQUEST, Change::Count(asked, change))
+        Damage::new(name, READER_OR_REQUEST, Change::Count(asked, change))
     }
 
     const TO_READERS_AND_REQUESTS: &'static [Damage<HandOut>] = &[
-        Damage::to_call("the first unknown reader", REQUEST, first_unknown_reader),
-        Damage::to_call("any unknown reader", REQUEST, unknown_reader),
-        Damage::to_call("a reader's high bits", REQUEST, reader_high_bits),
+        Damage::to_call(
+            "the first unknown reader",
+            READER_OR_REQUEST,
+            first_unknown_reader,
+        ),
+        Damage::to_call("any unknown reader", READER_OR_REQUEST, unknown_reader),
+        Damage::to_call("a reader's high bits", READER_OR_REQUEST, reader_high_bits),
         Damage::to_request("a request a byte short", byte_short),
         Damage::to_request("a request cut anywhere", cut),
         Damage::to_request("a byte behind the request", byte_left),
@@ -39,9 +43,13 @@ impl Damage<HandOut> {
         Damage::to_request_count("any count of the request", any_count),
         Damage::to_request("65 fields asked", one_too_many),
         Damage::to_request("more than 65 fields asked", far_too_many),
-        Damage::to_call("the first unknown field", REQUEST, first_unknown_field),
-        Damage::to_call("any unknown field", REQUEST, unknown_field),
-        Damage::to_call("a field's high byte", REQUEST, field_high_byte),
+        Damage::to_call(
+            "the first unknown field",
+            READER_OR_REQUEST,
+            first_unknown_field,
+        ),
+        Damage::to_call("any unknown field", READER_OR_REQUEST, unknown_field),
+        Damage::to_call("a field's high byte", READER_OR_REQUEST, field_high_byte),
     ];
 
     /// By the number that they bring about, the last in the order of checks first.

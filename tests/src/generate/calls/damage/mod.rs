@@ -9,7 +9,7 @@ use self::lists::*;
 use super::Generated;
 use crate::generate::levels::MOST_LEVELS;
 use crate::model::marks::{MOST_MARK, PARTIAL};
-use crate::model::number::{MARK, OUTPUT, STORE};
+use crate::model::number::{MARK_WRONG, OUT_SHORT, STORE_MISFIT};
 use crate::model::sheet::Sheet;
 use crate::model::store::{mark_at, STORE_ENTRY_BYTES};
 use crate::random::Random;
@@ -66,17 +66,17 @@ impl<C> Damage<C> {
 /// Damages that fit any call which has a store and an output.
 impl<C: Generated> Damage<C> {
     const TO_OUTPUTS: &'static [Damage<C>] = &[
-        Damage::to_call("an output a byte short", OUTPUT, output_byte_short),
-        Damage::to_call("an output cut anywhere", OUTPUT, output_cut),
-        Damage::to_call("no output", OUTPUT, no_output),
+        Damage::to_call("an output a byte short", OUT_SHORT, output_byte_short),
+        Damage::to_call("an output cut anywhere", OUT_SHORT, output_cut),
+        Damage::to_call("no output", OUT_SHORT, no_output),
     ];
 
     const fn to_store(name: &'static str, change: ListChange) -> Damage<C> {
-        Damage::new(name, STORE, Change::List(C::store, change))
+        Damage::new(name, STORE_MISFIT, Change::List(C::store, change))
     }
 
     const fn to_store_count(name: &'static str, change: CountChange) -> Damage<C> {
-        Damage::new(name, STORE, Change::Count(C::store, change))
+        Damage::new(name, STORE_MISFIT, Change::Count(C::store, change))
     }
 
     const TO_STORES: &'static [Damage<C>] = &[
@@ -94,11 +94,11 @@ impl<C: Generated> Damage<C> {
         Damage::to_store_count("any count of the store", any_count),
     ];
 
-    const MARK_ABOVE_31: Damage<C> = Damage::to_call("a mark above 31", MARK, mark_above_31);
+    const MARK_ABOVE_31: Damage<C> = Damage::to_call("a mark above 31", MARK_WRONG, mark_above_31);
     const UNKNOWN_LEVEL: Damage<C> =
-        Damage::to_call("a mark of an unknown level", MARK, unknown_level);
+        Damage::to_call("a mark of an unknown level", MARK_WRONG, unknown_level);
     const FIRST_UNKNOWN_LEVEL: Damage<C> =
-        Damage::to_call("the first unknown level", MARK, first_unknown_level);
+        Damage::to_call("the first unknown level", MARK_WRONG, first_unknown_level);
 }
 
 fn output_byte_short<C: Generated>(call: &mut C, _: &Sheet, _: &mut Random) -> bool {

@@ -2,7 +2,7 @@
 
 use super::{some_mark, Damage};
 use crate::model::marks::PARTIAL;
-use crate::model::number::{MARK, MODE_OR_FUEL};
+use crate::model::number::{MARK_WRONG, MODE_OR_FUEL};
 use crate::model::rules::MOST_FUEL;
 use crate::model::sheet::Sheet;
 use crate::model::store::marks_mut;
@@ -18,8 +18,8 @@ impl Damage<Call> {
             Damage::MARK_ABOVE_31,
             Damage::UNKNOWN_LEVEL,
             Damage::FIRST_UNKNOWN_LEVEL,
-            Damage::to_call("a partial mark in a strict run", MARK, strict_partial),
-            Damage::to_call("only partial marks", MARK, only_partial),
+            Damage::to_call("a partial mark in a strict run", MARK_WRONG, strict_partial),
+            Damage::to_call("only partial marks", MARK_WRONG, only_partial),
         ],
         Damage::TO_STORES,
         &[
