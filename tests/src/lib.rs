@@ -6,6 +6,8 @@ pub mod by_hand;
 pub mod compare;
 pub mod generate;
 pub mod model;
+#[cfg(test)]
+mod numbers;
 pub mod random;
 pub mod search;
 pub mod wrong;
