@@ -1,8 +1,8 @@
 /* Counts the instructions of the archive's calls and of the same monitor by hand in C.
  *
- * The processor stops after each instruction while its trap flag is set, and a signal handler counts the stops. So a count is exact and comes again,
- * emulated or not; only the C library's memcpy and memset may take another way on another processor. What a unit takes is what a longer run takes more,
- * divided by the units that it spends more. */
+ * The processor stops after each instruction while its trap flag is set, and a signal handler counts the stops. So a count is exact and the same at each
+ * run, emulated or not; only the C library's memcpy and memset may go another way on another processor. What a unit takes is what a longer run takes
+ * more, divided by the units that it spends more. */
 #define _POSIX_C_SOURCE 200809L
 #include "workloads.h"
 
