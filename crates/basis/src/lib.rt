@@ -1,4 +1,5 @@
-// What every crate says alike: numbers of two bytes, tests of all numbers below another, and the names of document 01's refusals.
+// What every crate says alike: numbers of two bytes, tests of all numbers below another, the names of document 01's refusals, and what a call answers.
+pub mod answer;
 pub mod numbers;
 
 ghost use mathlib.Core.Path.{_≡_};
@@ -6,7 +7,7 @@ ghost use Prim.Native.Nat.{_+_, _≤_, _<_};
 ghost use lib.ListN.{length};
 ghost use Rattle.basis.specs.Bytes.{wordAt};
 
-// Two bytes from place `at` on, lowest first.
+// Two bytes at an offset, lowest first.
 pub fn word(bytes: &[u8], at: usize) -> u32
     requires { ⌜ at + 2 ≤ length (now bytes) ⌝ }
     ensures { λ r. ⌜ (r ≡ wordAt (now (bytes .entry)) at) × (r < 65536) ⌝ }

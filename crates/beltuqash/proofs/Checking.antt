@@ -1,81 +1,109 @@
--- The checks of a sheet and of a store, which run and hand-out share: what is told, and what a sheet and a store that pass have.
+-- The lists of checks: no check tells number 0, and what a sheet, a store and a request have where all hold.
 use Prim.Native.Nat.{ℕ, _≤_}
 use native.Mathlib.Omega.{arith}
-use mathlib.Core.Path.{_≡_, refl, sym, ap, _∙_}
-use mathlib.Core.Bool.{Bool, true, false, true≢false}
-use mathlib.Core.List.{List}
-use borrow.Author.Tests.{eqb-true, eq-eqb, ne-eqb}
+use mathlib.Core.Path.{_≡_, refl, sym, ap}
+use mathlib.Core.Bool.{Bool, true, false, _&&_}
+use mathlib.Core.List.{List, _++_}
+use borrow.Author.Tests.{eqb-true, eqb-false, leb-true, ltb-true}
+use lib.Dec.{ltb, leb}
 use lib.ListN.{length, drop}
-use Rattle.basis.proofs.Tests.{both}
+use Rattle.basis.specs.Numbers as numbers
+use Rattle.basis.specs.Answer.{refusal}
+use Rattle.basis.specs.Checks.{allHold, tells}
+use Rattle.basis.proofs.Tests.{both, split}
+use Rattle.basis.proofs.Checks.{append-all, no-more, _also_, Numbered}
 use Rattle.levels.specs.Levels.{count}
-use Rattle.sheet.specs.Verdict.{numberOf, placeOf, passesOf}
-use Rattle.sheet.specs.Sections.{fieldsAt, nodesAt, levelsOf, fieldsOf, nodesOf}
-use Rattle.sheet.specs.Load.{fieldCount, loadOf, Loaded}
-use Rattle.sheet.specs.declared.verdict.Verdict.{Verdict}
-use Rattle.sheet.proofs.Verdicts.{passes-is}
-use Rattle.sheet.proofs.Parts.{entries-length}
-use Rattle.rules.specs.Marks.{Mode}
-use Rattle.rules.specs.Stores.{storeLength, storeFits, marksRight}
-use Rattle.beltuqash.specs.Answer.{answer, wordOf}
-use Rattle.beltuqash.specs.Calls.{load, Outcome, refuse, check, checkStore}
-use Rattle.beltuqash.specs.Checks.{Taken, Judged}
+use Rattle.sections.specs.Verdict.{verdictNumber, verdictPlace, passesOf}
+use Rattle.sections.specs.Sections.{fieldsAt, nodesAt, levelsOf, fieldsOf, nodesOf}
+use Rattle.sections.specs.declared.verdict.Verdict.{Verdict}
+use Rattle.sections.proofs.Verdicts.{passes-is}
+use Rattle.sections.proofs.Parts.{entries-length}
+use Rattle.sheet.specs.Load.{fieldCount, loadOf}
+use Rattle.sheet.specs.Inside.Loaded.{Loaded}
+use Rattle.sheet.proofs.Loading.{loaded}
+use Rattle.store.specs.Marks.{Mode, permissive, modeOf}
+use Rattle.store.specs.Stores.{storeLength, storeFits, marksRight}
+use Rattle.handout.specs.Requests.{askedCount, requestRight}
+use Rattle.handout.specs.Answers.{answerLength}
+use Rattle.handout.specs.Inside.Asks.{AsksAs}
+use Rattle.beltuqash.specs.Calls.{sheetChecks, storeChecks, runChecks, requestChecks, handOutChecks, refusedPosition, load}
+use Rattle.beltuqash.specs.Inside.Given.{Taken, Given, Requested}
 
--- a word and an output have an outcome
-abbrev Has : ℕ → List ℕ → Outcome → Type 0
-Has r out x = (r ≡ wordOf (x .answer)) × (out ≡ x .out)
+-- ── no check tells number 0 ─────────────────────────────────────────────────────────────────
 
-pub has-same : {r : ℕ} {out : List ℕ} {x y : Outcome} → x ≡ y → Has r out y → Has r out x
-has-same e h = rw e h
+never : {holds : Bool} (number : ℕ) → (number ≡ 0 → ⊥) → holds ≡ false → number ≡ 0 → ⊥
+never number some f = some
 
--- number 0 comes only past a check, if its own number is 0 for what passes alone
-pub passed : (right : Bool) (number place : ℕ) (out : List ℕ) (next : Outcome) → (number ≡ 0 → right ≡ true) → check right number place out next .answer .number ≡ 0
-    → (right ≡ true) × (next .answer .number ≡ 0)
-passed true number place out next only e = (refl, e)
-passed false number place out next only e = absurd (true≢false (sym (only e)))
+module _ (sheet : List ℕ) where
+  some-number : passesOf (loadOf sheet) ≡ false → verdictNumber (loadOf sheet) ≡ 0 → ⊥
+  some-number e = eqb-false _ _ e
 
--- ── what is told ────────────────────────────────────────────────────────────────────────────
+  pub sheet-numbered : Numbered (sheetChecks sheet)
+  sheet-numbered = some-number also no-more
 
-module _ (sheet store : List ℕ) (mode : Mode) where
-  -- a number and a place are told, whatever would come next
-  abbrev Refused : ℕ → ℕ → Type 0
-  Refused number place = (out : List ℕ) (next : Outcome) → checkStore sheet store mode out next ≡ refuse number place out
+  pub both-numbered : (store : List ℕ) (mode : Mode) → Numbered (sheetChecks sheet ++ storeChecks sheet store mode)
+  both-numbered store mode = some-number also never numbers.storeMisfit (λ e. omega arith) also never numbers.markWrong (λ e. omega arith) also no-more
 
-  pub sheet-refused : passesOf (loadOf sheet) ≡ false → Refused (numberOf (loadOf sheet)) (placeOf (loadOf sheet))
-  sheet-refused e out next = rw e
+  pub run-numbered : (store : List ℕ) (mode fuel room : ℕ) → Numbered (runChecks sheet store mode fuel room)
+  run-numbered store mode fuel room =
+      never numbers.modeOrFuel (λ e. omega arith) also some-number also never numbers.storeMisfit (λ e. omega arith) also never numbers.markWrong (λ e. omega arith) also never numbers.outShort (λ e. omega arith) also no-more
 
-  module _ (p : passesOf (loadOf sheet) ≡ true) where
-    pub store-refused : storeFits (fieldCount sheet) store ≡ false → Refused 8 0
-    store-refused e out next = rw (p, e)
+  pub hand-out-numbered : (store : List ℕ) (reader : ℕ) (request : List ℕ) (room : ℕ) → Numbered (handOutChecks sheet store reader request room)
+  hand-out-numbered store reader request room =
+      some-number also never numbers.storeMisfit (λ e. omega arith) also never numbers.markWrong (λ e. omega arith)
+      also never numbers.readerOrRequest (λ e. omega arith) also never numbers.outShort (λ e. omega arith) also never numbers.partialAsked (λ e. omega arith) also no-more
 
-    pub mark-refused : storeFits (fieldCount sheet) store ≡ true → marksRight mode (count (levelsOf sheet)) (fieldCount sheet) store ≡ false → Refused 9 0
-    mark-refused f e out next = rw (p, f, e)
+  -- load tells the verdict's number and place
+  pub load-is : load sheet ≡ refusal (verdictNumber (loadOf sheet)) (verdictPlace (loadOf sheet))
+  unfolding load tells
+  load-is =
+      split (passesOf (loadOf sheet))
+      (λ t. rw t (ap (λ (v : Verdict). refusal (verdictNumber v) (verdictPlace v)) (sym (passes-is (loadOf sheet) t))))
+      (λ f. rw f refl)
 
-  pub refused-judged : (number place : ℕ) → (number ≡ 0 → ⊥) → Refused number place → (r : ℕ) → r ≡ wordOf (answer number place 0) → Judged sheet store mode r
-  refused-judged number place some told r word =
-      let not-none : r ≡ 0 → ⊥ = λ e. some (omega arith) in
-      record { number = number; place = place; word = word; told = λ out next. told out next ∙ rw (ne-eqb r 0 not-none); taken = λ e. absurd (not-none e) }
+-- ── where all hold ──────────────────────────────────────────────────────────────────────────
 
--- load's word is 0 exactly where the sheet passes
-pub word-passes : (sheet : List ℕ) → wordOf (load sheet) ≡ 0 → passesOf (loadOf sheet) ≡ true
-unfolding load
-word-passes sheet e = eq-eqb (numberOf (loadOf sheet)) 0 (omega arith)
+module _ (sheet : List ℕ) where
+  pub sheet-holds : allHold (sheetChecks sheet) ≡ true → Loaded sheet
+  unfolding allHold
+  sheet-holds h = loaded sheet (passes-is (loadOf sheet) (both _ _ h .0))
 
-pub load-judged : (sheet store : List ℕ) (mode : Mode) {r : ℕ} → r ≡ wordOf (load sheet) → (r ≡ 0 → ⊥) → Judged sheet store mode r
-unfolding load
-load-judged sheet store mode {r} word some =
-    let refused : numberOf (loadOf sheet) ≡ 0 → ⊥ = λ e. some (word ∙ ap (λ (v : Verdict). wordOf (answer (numberOf v) (placeOf v) 0)) (passes-is (loadOf sheet) (eq-eqb _ _ e))) in
-    refused-judged sheet store mode _ _ refused (sheet-refused sheet store mode (ne-eqb _ _ refused)) r word
+  pub both-hold : (store : List ℕ) (mode : Mode) → allHold (sheetChecks sheet ++ storeChecks sheet store mode) ≡ true → Taken sheet store mode
+  unfolding allHold
+  both-hold store mode h =
+      let (passes, rest) = both _ _ h in
+      let (fits, last) = both _ _ rest in
+      record { loaded = loaded sheet (passes-is (loadOf sheet) passes); fits = fits; marks = both _ _ last .0 }
 
-module _ {sheet store : List ℕ} {mode : Mode} where
-  pub taken-next : Taken sheet store mode → (out : List ℕ) (next : Outcome) → checkStore sheet store mode out next ≡ next
-  taken-next taken out next = rw (taken .passes, taken .fits, taken .marks)
+  pub run-holds : (store : List ℕ) (mode fuel room : ℕ) → allHold (runChecks sheet store mode fuel room) ≡ true → Given sheet store mode fuel room
+  unfolding allHold
+  run-holds store mode fuel room h =
+      let (asked, rest) = both (leb mode 1 && leb fuel 1000000) _ h in
+      let (known, few) = both (leb mode 1) _ asked in
+      let (passes, more) = both (passesOf (loadOf sheet)) _ rest in
+      let (fits, most) = both (storeFits (fieldCount sheet) store) _ more in
+      let (marks, last) = both (marksRight (modeOf mode) (count (levelsOf sheet)) (fieldCount sheet) store) _ most in
+      record {
+        taken = record { loaded = loaded sheet (passes-is (loadOf sheet) passes); fits = fits; marks = marks };
+        mode-known = leb-true mode 1 known;
+        few = leb-true fuel 1000000 few;
+        room-is = leb-true _ room (both (leb (storeLength (fieldCount sheet)) room) _ last .0);
+      }
 
-  pub taken-judged : Taken sheet store mode → Judged sheet store mode 0
-  taken-judged taken = record { number = 0; place = 0; word = refl; told = taken-next taken; taken = λ e. taken }
+  -- a reader and a request that are right
+  module _ (store : List ℕ) (reader : ℕ) (request : List ℕ) where
+    pub requested : Taken sheet store permissive → (ltb reader (count (levelsOf sheet)) && requestRight (fieldCount sheet) request) ≡ true → Requested sheet store reader request
+    requested taken h = let (known, right) = both (ltb reader _) _ h in record { taken = taken; reader-known = ltb-true _ _ known; request-right = right }
 
-  pub judged-refusal : {r : ℕ} (judged : Judged sheet store mode r) → (r ≡ 0 → ⊥) → (out : List ℕ) (next : Outcome)
-      → checkStore sheet store mode out next ≡ refuse (judged .number) (judged .place) out
-  judged-refusal {r} judged some out next = judged .told out next ∙ rw (ne-eqb r 0 some)
+    -- with room for the answer, and no field that refuses
+    pub hand-out-holds : (room : ℕ) → allHold (handOutChecks sheet store reader request room) ≡ true
+        → Requested sheet store reader request × (answerLength request ≤ room) × (askedCount request ≤ refusedPosition sheet store reader request)
+    unfolding allHold
+    hand-out-holds room h =
+        let (taken, rest) = append-all (requestChecks sheet store reader request room) (sheetChecks sheet ++ storeChecks sheet store permissive) h in
+        let (asked, last) = both _ _ rest in
+        let (long, none) = both _ _ last in
+        (requested (both-hold store permissive taken) asked, leb-true _ _ long, leb-true _ _ (both _ _ none .0))
 
 -- ── what a sheet and a store have ───────────────────────────────────────────────────────────
 
@@ -103,3 +131,14 @@ module _ (sheet : List ℕ) (loaded : Loaded sheet) where
 pub fits-long : (fields : ℕ) (store : List ℕ) → storeFits fields store ≡ true → length store ≡ storeLength fields
 unfolding storeFits
 fits-long fields store e = eqb-true _ _ (both _ _ e .0)
+
+-- a request that hand-out's functions take
+pub asks-as : {sheet store : List ℕ} {reader : ℕ} {request : List ℕ} → Requested sheet store reader request → AsksAs (levelsOf sheet) store reader request
+asks-as {sheet} given = record {
+  fields = fieldCount sheet;
+  long = fits-long _ _ (given .taken .fits);
+  request-right = given .request-right;
+  order = given .taken .loaded .levels;
+  reader-known = given .reader-known;
+  marks = given .taken .marks;
+}

@@ -1,5 +1,4 @@
--- What the proofs of run and hand-out need, and that the contracts leave one answer.
+-- What the proofs of the calls need: the lists of checks (`Checking`) and a run once they have passed (`Running`); and that the contracts leave one answer.
 pub mod Checking
 pub mod Running
-pub mod HandingOut
 pub mod Unique

@@ -1,6 +1,3 @@
--- What a call answers, and what each call does. Only contracts inside this crate cite the last three.
-pub mod Answer
+-- What each call does. `Inside` serves functions only.
 pub mod Calls
-pub mod Checks
-pub mod Runs
-pub mod Handing
+pub mod Inside

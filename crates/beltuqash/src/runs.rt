@@ -1,26 +1,27 @@
 // A run once all checks have passed.
-use crate::answer::pack;
-use basis::numbers;
-use sheet::sections;
+use basis::answer::Answer;
+use basis::answer::success;
+use marks::words;
 ghost use mathlib.Core.Path.{_≡_};
-ghost use Prim.Native.Nat.{ℕ, _%_, _≤_};
+ghost use Prim.Native.Nat.{ℕ, _≤_};
 ghost use mathlib.Core.List.{List};
-ghost use Rattle.flow.specs.Tasks.{stopOf, Told};
-ghost use Rattle.beltuqash.specs.Answer.{wordOf};
+ghost use lib.ListN.{length};
+ghost use Rattle.marks.specs.Inside.Words.{leftIn};
+ghost use Rattle.flow.specs.Inside.Tasks.{stopOf, Told};
 ghost use Rattle.beltuqash.specs.Calls.{ended, runFrom};
-ghost use Rattle.beltuqash.specs.Runs.{Given};
+ghost use Rattle.beltuqash.specs.Inside.Given.{Given, Comes};
 
 // Runs a sheet that passes from a store that fits it, on a work store: only a run that is done writes.
-pub fn run_from(sheet: &[u8], store: &[u8], mode: u32, fuel: u32, out: &mut [u8]) -> u64
-    requires { ⌜ Given (now sheet) (now store) mode (now out) ⌝ }
-    ensures { λ r. ⌜ (r ≡ wordOf (runFrom (now (sheet .entry)) (now (store .entry)) mode fuel (now (out .entry)) .answer)) × (now (out .exit) ≡ runFrom (now (sheet .entry)) (now (store .entry)) mode fuel (now (out .entry)) .out) ⌝ }
+pub fn run_from(sheet: &[u8], store: &[u8], mode: u32, fuel: u32, out: &mut [u8]) -> Answer
+    requires { ⌜ Given (now sheet) (now store) mode fuel (length (now out)) ⌝ }
+    ensures { λ r. ⌜ Comes (runFrom (now (sheet .entry)) (now (store .entry)) mode fuel (now (out .entry))) r (now (out .exit)) ⌝ }
 {
     let rows = sections::levels(sheet);
     let nodes = sections::nodes(sheet);
     let fields = sections::fields(sheet).len() / 8;
     let mut work = [0u64; 64];
-    flow::stores::fetch(store, &mut work, fields);
-    let task = flow::marks::first_task(rows, mode);
+    flow::work::fetch(store, &mut work, fields);
+    let task = marks::first_task(rows, mode);
     let word = flow::commands::run(
         &[rows, sections::constants(sheet), nodes],
         &mut work,
@@ -28,21 +29,22 @@ pub fn run_from(sheet: &[u8], store: &[u8], mode: u32, fuel: u32, out: &mut [u8]
         task,
         fuel,
     );
-    if flow::cells::STOP <= word {
+    if words::STOP <= word {
         return stopped(word, fuel);
     }
-    flow::stores::deliver(&work, out, fields);
-    pack(numbers::DONE, 0, fuel - (word % 4294967296) as u32)
+    flow::work::deliver(&work, out, fields);
+    success(fuel - words::left_in(word))
 }
 
-// The word of a run that stops.
-fn stopped(word: u64, fuel: u32) -> u64
-    requires { ⌜ Told word × (word % 4294967296 ≤ fuel) ⌝ }
-    ensures { λ r. ⌜ ((fields : ℕ) (out : List ℕ) → r ≡ wordOf (ended fields fuel out (stopOf word) .answer)) ⌝ }
+// What a run that stops comes to.
+fn stopped(word: u64, fuel: u32) -> Answer
+    requires { ⌜ Told word × (leftIn word ≤ fuel) ⌝ }
+    ensures { λ r. ⌜ ((fields : ℕ) (out : List ℕ) → r ≡ ended fields fuel out (stopOf word) .answer) ⌝ }
 {
-    pack(
-        (word / 281474976710656 % 256) as u8,
-        (word / 4294967296 % 65536) as u16,
-        fuel - (word % 4294967296) as u32,
-    )
+    let units = fuel - words::left_in(word);
+    Answer {
+        number: words::number_in(word),
+        place: words::place_told(word),
+        units,
+    }
 }

@@ -1,61 +1,61 @@
--- Words that stand for ends and tests.
-use Prim.Native.Nat.{ℕ, _+_, _*_, _/_, _%_, _≤_, _<_}
+-- Words that stand for ends and tests, whatever marks there are.
+use Prim.Native.Nat.{ℕ, _≤_}
 use native.Mathlib.Omega.{arith}
 use mathlib.Core.Path.{_≡_, ap, _∙_}
 use mathlib.Core.Bool.{Bool, true, false}
 use borrow.Author.Tests.{lt-ltb, le-ltb, ne-eqb}
 use mir.Val.{boolByte}
+use Rattle.basis.specs.Numbers as numbers
 use Rattle.value.specs.Values.{isTrue}
-use Rattle.rules.specs.Rules.{Store, End, done, spent, stopped, choose}
-use Rattle.rules.specs.Marks.{Mark}
-use Rattle.flow.specs.Words.{valueIn, markIn, placeIn, numberIn, whyOf, Numbered}
-use Rattle.flow.specs.Tasks.{orStop, testOf, stopOf, endOf, Told}
-use Rattle.flow.proofs.Words.{stop-number, stop-place}
+use Rattle.store.specs.Cells.{Store}
+use Rattle.rules.specs.Ends.{End, done, spent, stopped, choose}
+use Rattle.marks.specs.Inside.Words.{stopFrom, Half, valueIn, markIn, Goes, Stops, leftIn, placeIn, numberIn, whyOf, Stop, Numbered}
+use Rattle.flow.specs.Inside.Tasks.{orStop, testOf, stopOf, endOf, Told}
 
--- an end below bit 63, and one with it
-module _ (w : ℕ) (σ : Store Mark) where
-  pub end-done : w < 9223372036854775808 → endOf w σ ≡ done σ (w % 4294967296)
-  unfolding endOf
-  end-done h = rw (lt-ltb w 9223372036854775808 h)
+module _ {Mark : Type 0} where
+  -- the end of a run that is done, and of one that stops
+  module _ (w : ℕ) (σ : Store Mark) where
+    pub end-done : Goes w → endOf w σ ≡ done σ (leftIn w)
+    unfolding endOf
+    end-done h = rw (lt-ltb w stopFrom h)
 
-  pub end-stop : 9223372036854775808 ≤ w → endOf w σ ≡ stopOf w
-  unfolding endOf
-  end-stop h = rw (le-ltb w 9223372036854775808 h)
+    pub end-stop : Stops w → endOf w σ ≡ stopOf w
+    unfolding endOf
+    end-stop h = rw (le-ltb w stopFrom h)
 
--- the end of a run that has only the fuel left to tell
-pub end-left : (left : ℕ) (σ : Store Mark) → left < 4294967296 → endOf left σ ≡ done σ left
-end-left left σ h =
-    let same : left % 4294967296 ≡ left = omega arith in
-    end-done left σ (omega arith) ∙ ap (done σ) same
+  -- the end of a run that has only the fuel left to tell
+  pub end-left : (left : ℕ) (σ : Store Mark) → Half left → endOf left σ ≡ done σ left
+  end-left left σ h =
+      let same : leftIn left ≡ left = omega arith in
+      end-done left σ (omega arith) ∙ ap (done σ) same
 
--- a word without a stop, and a stop, with the fuel left
-module _ (w left : ℕ) (next : End Mark) where
-  pub or-next : w < 9223372036854775808 → orStop w left next ≡ next
-  unfolding orStop
-  or-next h = rw (lt-ltb w 9223372036854775808 h)
+  -- a word without a stop, and a stop, with the fuel left
+  module _ (w left : ℕ) (next : End Mark) where
+    pub or-next : Goes w → orStop w left next ≡ next
+    unfolding orStop
+    or-next h = rw (lt-ltb w stopFrom h)
 
-  pub or-stopped : 9223372036854775808 ≤ w → orStop w left next ≡ stopped (whyOf (numberIn w)) (placeIn w) left
-  unfolding orStop
-  or-stopped h = rw (le-ltb w 9223372036854775808 h)
+    pub or-stopped : Stops w → orStop w left next ≡ stopped (whyOf (numberIn w)) (placeIn w) left
+    unfolding orStop
+    or-stopped h = rw (le-ltb w stopFrom h)
 
--- a test that stops, and one that goes on to a side
-module _ (w left : ℕ) (yes-side no-side : ℕ → ℕ → End Mark) where
-  pub test-stopped : 9223372036854775808 ≤ w → testOf w left yes-side no-side ≡ stopped (whyOf (numberIn w)) (placeIn w) left
-  unfolding testOf
-  test-stopped h = or-stopped w left _ h
+  -- a test that stops, and one that goes on to a side
+  module _ {Context : Type 0} (of : ℕ → Context) (w left : ℕ) (yes-side no-side : Context → ℕ → End Mark) where
+    pub test-stopped : Stops w → testOf of w left yes-side no-side ≡ stopped (whyOf (numberIn w)) (placeIn w) left
+    unfolding testOf
+    test-stopped h = or-stopped w left _ h
 
-  pub test-side : w < 9223372036854775808
-      → testOf w left yes-side no-side ≡ choose (isTrue (valueIn w)) (λ c. yes-side c left) (λ c. no-side c left) (markIn w)
-  unfolding testOf
-  test-side h = or-next w left _ h
+    pub test-side : Goes w → testOf of w left yes-side no-side ≡ choose (isTrue (valueIn w)) (λ c. yes-side c left) (λ c. no-side c left) (of (markIn w))
+    unfolding testOf
+    test-side h = or-next w left _ h
 
-  pub test-yes : w < 9223372036854775808 → isTrue (valueIn w) ≡ true → testOf w left yes-side no-side ≡ yes-side (markIn w) left
-  unfolding choose
-  test-yes h holds = test-side h ∙ rw holds
+    pub test-yes : Goes w → isTrue (valueIn w) ≡ true → testOf of w left yes-side no-side ≡ yes-side (of (markIn w)) left
+    unfolding choose
+    test-yes h holds = test-side h ∙ rw holds
 
-  pub test-no : w < 9223372036854775808 → isTrue (valueIn w) ≡ false → testOf w left yes-side no-side ≡ no-side (markIn w) left
-  unfolding choose
-  test-no h fails = test-side h ∙ rw fails
+    pub test-no : Goes w → isTrue (valueIn w) ≡ false → testOf of w left yes-side no-side ≡ no-side (of (markIn w)) left
+    unfolding choose
+    test-no h fails = test-side h ∙ rw fails
 
 -- whether a test holds, as a number
 pub bit-few : (b : Bool) → boolByte b ≤ 1
@@ -63,33 +63,26 @@ bit-few true = omega arith
 bit-few false = omega arith
 
 -- the word of a run without fuel
-module _ (r place : ℕ) (e : r ≡ place * 4294967296 + 12 * 281474976710656 + 9223372036854775808) (few : place < 65536) where
-  pub stop-spent : stopOf r ≡ spent place
+module _ {r place : ℕ} (s : Stop numbers.fuelSpent place 0 r) where
+  pub stop-spent : {Mark : Type 0} → stopOf {Mark = Mark} r ≡ spent place
   unfolding stopOf
-  stop-spent = rw (stop-number r 12 place e few (omega arith), stop-place r 12 place e few (omega arith))
+  stop-spent = rw (s .number-is, s .place-is)
 
   pub told-spent : Told r
   told-spent =
-      let number = stop-number r 12 place e few (omega arith) in
-      record { least = omega arith; most = omega arith; nothing = λ _. omega arith }
+      let number = s .number-is in
+      record { least = omega arith; most = omega arith; nothing = λ _. s .left-is }
 
 -- a stop's word with the fuel left
-module _ (r word left : ℕ) (upper : r / 4294967296 ≡ word / 4294967296) (lower : r % 4294967296 ≡ left) (large : 9223372036854775808 ≤ word) (numbered : Numbered word) where
-  number-handed : numberIn r ≡ numberIn word
-  number-handed =
-      let of-r : r / 281474976710656 ≡ r / 4294967296 / 65536 = omega arith in
-      let of-word : word / 281474976710656 ≡ word / 4294967296 / 65536 = omega arith in
-      let same : r / 281474976710656 ≡ word / 281474976710656 = omega arith in
-      ap (λ (k : ℕ). k % 256) same
-
-  pub stop-handed : stopOf r ≡ stopped (whyOf (numberIn word)) (placeIn word) left
+module _ {r word left : ℕ} (s : Stop (numberIn word) (placeIn word) left r) (large : Stops word) (numbered : Numbered word) where
+  pub stop-handed : {Mark : Type 0} → stopOf {Mark = Mark} r ≡ stopped (whyOf (numberIn word)) (placeIn word) left
   unfolding stopOf
   stop-handed =
       let least = numbered large .0 in
-      rw (number-handed, ne-eqb (numberIn word) 12 (λ twelve. omega arith), upper, lower)
+      rw (s .number-is, ne-eqb (numberIn word) numbers.fuelSpent (λ spent. omega arith), s .place-is, s .left-is)
 
   pub told-handed : Told r
   told-handed =
       let (least, most) = numbered large in
-      let number = number-handed in
-      record { least = omega arith; most = omega arith; nothing = λ twelve. absurd (omega arith) }
+      let number = s .number-is in
+      record { least = omega arith; most = omega arith; nothing = λ spent. absurd (omega arith) }

@@ -1,10 +1,5 @@
--- What the functions' proofs share: the parts of a sheet, words that answer, marks and stores as bytes, entries written, what expressions give and
--- what commands do.
-pub mod Sections
-pub mod Words
-pub mod Marking
-pub mod Entries
-pub mod Filling
+-- What the functions' proofs share: a work store filled, what expressions give and what commands do.
+pub mod Fetching
 pub mod Expressions
 pub mod Ends
 pub mod Assigning

@@ -1,122 +1,85 @@
--- What a test comes to, case by case, once its unit is spent: an expression that stops, a partial test, and either side.
-use Prim.Native.Nat.{ℕ, suc, _+_, _-_, _*_, _/_, _≤_, _<_}
+-- What a test comes to, case by case, once its unit is spent: an expression that stops, a test that is refused, and either side.
+use Prim.Native.Nat.{ℕ, suc, _≤_}
 use native.Mathlib.Omega.{arith}
 use mathlib.Core.Path.{_≡_, sym, _∙_}
-use mathlib.Core.Bool.{true, false, true≢false}
 use mathlib.Core.List.{List}
-use borrow.Author.Tests.{eqb-true, eqb-false, ltb-true, ltb-false}
-use lib.Dec.{eqb, ltb}
+use borrow.Author.Tests.{eqb-true, eqb-false}
+use lib.Dec.{eqb}
 use Rattle.basis.proofs.Tests.{split}
 use Rattle.value.specs.Values.{isTrue}
 use Rattle.value.specs.declared.Value.{Value}
-use Rattle.levels.specs.Levels.{count}
-use Rattle.levels.specs.Lattice.{Lattice, lattice}
-use Rattle.sheet.specs.Nodes.{In, kindAt, placeAt, kinds, heldIn, ExpBelow, WellFormed}
-use Rattle.sheet.specs.Trees.{Exp, expAt}
+use Rattle.nodes.specs.Nodes.{In, kindAt, slotAt, kinds, heldIn}
+use Rattle.nodes.specs.Inside.Formed.{ExpBelow, WellFormed}
+use Rattle.sheet.specs.Trees.{Exp}
 use Rattle.sheet.proofs.Trees.{held-there}
-use Rattle.rules.specs.Rules.{Why, partialTest, Cell, cell, Store, Result, gives, stops, End, stopped, at, with, choose, spend, eval, branch, tested}
-use Rattle.rules.specs.Marks.{Mark, whole, partial, Mode, joined, entered, marking}
-use Rattle.rules.specs.Stores.{markOf, markKnown}
-use Rattle.flow.specs.Words.{rowsIn, constantsIn, nodesIn, valueIn, markIn, cellIn, workOf, whyOf, resultOf, Numbered, ExpIn}
-use Rattle.flow.specs.Tasks.{boundsIn, modeIn, contextIn, CmdIn, Tested}
-use Rattle.flow.proofs.Words.{word-value, word-stop, mark-seen, number-seen, stop-large, stop-number, stop-place, number-stop}
-use Rattle.flow.proofs.Marking.{known-is, mark-whole, mark-partial}
+use Rattle.rules.specs.Ends.{Why, gives, stops, End, stopped, at, with, choose, spend}
+use Rattle.rules.specs.Rules.{Marking, eval, branch, tested}
+use Rattle.store.specs.Cells.{cell, Store}
+use Rattle.marks.specs.Inside.Parts.{nodesIn}
+use Rattle.marks.specs.Inside.Words.{valueIn, markIn, Word, Goes, Stops, runIn, contextIn}
+use Rattle.marks.specs.Inside.Meanings.{Meaning, Entered}
+use Rattle.flow.specs.Inside.Tasks.{meaningIn, ExpIn, Evaluated, CmdIn, Tested}
+use Rattle.marks.proofs.Results.{goes-number, answer-gives, answer-stops}
 use Rattle.flow.proofs.Ends.{test-stopped, test-side}
 
 -- ── by the rules ────────────────────────────────────────────────────────────────────────────
 
-module _ (𝓛 : Lattice) (mode : Mode) (place : ℕ) (e : Exp) (context : ℕ) (σ : Store Mark) (left : ℕ) (yes-side no-side : ℕ → ℕ → End Mark) where
+module _ {Mark Seen Context : Type 0} (𝓜 : Marking Mark Seen Context) (place : ℕ) (e : Exp) (context : Context) (σ : Store Mark) (left : ℕ)
+    (yes-side no-side : Context → ℕ → End Mark) where
   abbrev end : End Mark
-  end = tested (marking 𝓛 mode) place e context σ (suc left) yes-side no-side
+  end = tested 𝓜 place e context σ (suc left) yes-side no-side
 
-  abbrev result : Result (Cell Mark)
-  result = eval (marking 𝓛 mode) e σ
-
-  tested-stops : (why : Why) (there : ℕ) → result ≡ stops why there → end ≡ stopped why there left
+  tested-stops : (why : Why) (there : ℕ) → eval 𝓜 e σ ≡ stops why there → end ≡ stopped why there left
   unfolding tested spend with
   tested-stops why there h = rw h
 
-  tested-partial : (v : Value) (a : ℕ) → result ≡ gives (cell v (partial a)) → end ≡ stopped partialTest place left
-  unfolding tested spend with branch at entered
-  tested-partial v a h = rw h
+  module _ (v : Value) (m : Seen) (value : eval 𝓜 e σ ≡ gives (cell v m)) where
+    tested-refused : (why : Why) (there : ℕ) → at place (𝓜 .enter context m) ≡ stops why there → end ≡ stopped why there left
+    unfolding tested spend with branch
+    tested-refused why there h = rw (value, h)
 
-  tested-whole : (v : Value) (a : ℕ) → result ≡ gives (cell v (whole a)) → end ≡ choose (isTrue v) (λ c. yes-side c left) (λ c. no-side c left) (𝓛 .join context a)
-  unfolding tested spend with branch at entered
-  tested-whole v a h = rw h
-
--- a byte whose mark is whole is the level
-whole-level : (byte level : ℕ) → markOf byte ≡ whole level → (byte ≡ level) × (byte < 16)
-whole-level byte level e = split (ltb byte 16)
-    (λ low. (same (sym (mark-whole byte (ltb-true byte 16 low)) ∙ e), ltb-true byte 16 low))
-    (λ high. absurd (true≢false (apart (sym (mark-partial byte (ltb-false byte 16 high)) ∙ e))))
-  where
-    same : {a b : ℕ} → whole a ≡ whole b → a ≡ b
-    same p = cc
-
-    apart : {a b : ℕ} → partial a ≡ whole b → true ≡ false
-    apart p = cc
+    tested-goes : (c : Context) → at place (𝓜 .enter context m) ≡ gives c → end ≡ choose (isTrue v) (λ c. yes-side c left) (λ c. no-side c left) c
+    unfolding tested spend with branch
+    tested-goes c h = rw (value, h)
 
 -- ── by the words of a test ──────────────────────────────────────────────────────────────────
 
-module _ (parts : List (List ℕ)) (work : List ℕ) (n task : ℕ) where
-  -- what the test's expression gives
-  abbrev given : Result (Cell Mark)
-  given = eval (marking (lattice (rowsIn parts)) (modeIn task)) (expAt (constantsIn parts) (nodesIn parts) (placeAt (nodesIn parts) n 0)) (workOf work)
+module _ (parts : List (List ℕ)) (work : List ℕ) (n task x : ℕ) (evaluated : Evaluated parts work (runIn task) (slotAt (nodesIn parts) n 0) x) where
+  abbrev 𝓢 : Meaning
+  𝓢 = meaningIn parts (runIn task)
 
-  pub expression-stops : (x : ℕ) → given ≡ resultOf x → 9223372036854775808 ≤ x → Numbered x → Tested parts work n task x
-  expression-stops x got large numbered = record {
-    is = λ left yes-side no-side. test-stopped x left yes-side no-side large ∙ sym (tested-stops _ _ _ _ _ _ left yes-side no-side _ _ (got ∙ word-stop x large));
+  pub expression-stops : Stops x → Tested parts work n task x
+  expression-stops large = record {
+    is = λ left yes-side no-side. test-stopped _ x left yes-side no-side large ∙ sym (tested-stops _ _ _ _ _ left yes-side no-side _ _ (answer-stops evaluated large));
     context = λ small. absurd (omega arith);
-    number = numbered;
+    number = evaluated .number;
   }
 
-  module _ (x : ℕ) (got : given ≡ resultOf x) (small : x < 9223372036854775808) where
-    pub test-partial : (r : ℕ) → 16 ≤ markIn x → r ≡ n * 4294967296 + 16 * 281474976710656 + 9223372036854775808 → n < 65536 → Tested parts work n task r
-    unfolding whyOf
-    test-partial r high e few =
-        let large = stop-large r 16 n e few (omega arith) in
+  module _ (goes : Goes x) {k : ℕ} (entered : Entered 𝓢 n (contextIn task) (markIn x) k) where
+    pub test-refused : Stops k → Tested parts work n task k
+    test-refused large = record {
+      is = λ left yes-side no-side. test-stopped _ k left yes-side no-side large
+          ∙ sym (tested-refused _ _ _ _ _ left yes-side no-side _ _ (answer-gives evaluated goes) _ _ (answer-stops entered large));
+      context = λ small. absurd (omega arith);
+      number = entered .number;
+    }
+
+    -- the test's value with the context after it
+    pub goes-on : Goes k → {r : ℕ} → Word (valueIn x) k r → Tested parts work n task r
+    goes-on fine {r} made =
+        let few = entered .known fine .1 in
+        let low : Goes r = omega (arith, made .mark-is) in
         record {
-          is = λ left yes-side no-side. test-stopped r left yes-side no-side large
-              ∙ rw (stop-number r 16 n e few (omega arith), stop-place r 16 n e few (omega arith))
-              (sym (tested-partial _ _ _ _ _ _ left yes-side no-side (valueIn x) (markIn x - 16) (got ∙ word-value x small ∙ rw (mark-partial (markIn x) high))));
-          context = λ low. absurd (omega arith);
-          number = number-stop r 16 n e few (omega arith) (omega arith) (omega arith);
+          is = λ left yes-side no-side. test-side (𝓢 .contextOf) r left yes-side no-side low
+              ∙ rw (made .value, made .mark-is)
+              (sym (tested-goes _ _ _ _ _ left yes-side no-side _ _ (answer-gives evaluated goes) _ (answer-gives entered fine)));
+          context = λ _. rw (made .mark-is) (entered .known fine .0);
+          number = goes-number r low;
         }
-
-    -- the test's value with the joined context
-    module _ (low : markIn x < 16) (r mark : ℕ) (is : cellIn r ≡ cell (valueIn x) (markOf mark)) (upper : r / 4294967296 ≡ mark) (value : r < 9223372036854775808)
-        (joins : markOf mark ≡ joined (lattice (rowsIn parts)) (markOf (contextIn task)) (markOf (markIn x))) (known : markKnown (count (rowsIn parts)) mark ≡ true)
-        (few : contextIn task < 16) where
-      mark-few : mark < 256
-      mark-few =
-          let most = known-is _ mark known .0 in
-          omega arith
-
-      mark-join : (mark ≡ lattice (rowsIn parts) .join (contextIn task) (markIn x)) × (mark < 16)
-      unfolding joined
-      mark-join = whole-level mark _ (joins ∙ rw (mark-whole (contextIn task) few, mark-whole (markIn x) low))
-
-      context-is : markIn r ≡ lattice (rowsIn parts) .join (contextIn task) (markIn x)
-      context-is = mark-seen r mark upper mark-few ∙ mark-join .0
-
-      value-is : valueIn r ≡ valueIn x
-      value-is = same-value is
-        where
-          same-value : {v w : Value} {m k : Mark} → cell v m ≡ cell w k → v ≡ w
-          same-value p = cc
-
-      pub goes-on : Tested parts work n task r
-      goes-on = record {
-        is = λ left yes-side no-side. test-side r left yes-side no-side value
-            ∙ rw (value-is, context-is)
-            (sym (tested-whole _ _ _ _ _ _ left yes-side no-side (valueIn x) (markIn x) (got ∙ word-value x small ∙ rw (mark-whole (markIn x) low))));
-        context = λ _. omega (arith, mark-join .1, known-is _ mark known .1, mark-seen r mark upper mark-few);
-        number = number-seen r value;
-      }
 
 -- ── the test's expression ───────────────────────────────────────────────────────────────────
 
-test-below : {s : List ℕ} {fields constants : ℕ} → WellFormed s fields constants → (n : ℕ) → In s n → 8 ≤ kindAt s n → ExpBelow s n (placeAt s n 0)
+test-below : {s : List ℕ} {fields constants : ℕ} → WellFormed s fields constants → (n : ℕ) → In s n → 8 ≤ kindAt s n → ExpBelow s n (slotAt s n 0)
 unfolding heldIn kinds
 test-below {s} nodes n i h =
     let known = nodes .kind n i in
@@ -125,7 +88,7 @@ test-below {s} nodes n i h =
     (λ k. held-there nodes n i 9 0 (omega (arith, eqb-false (kindAt s n) 8 k)) (omega arith))
 
 pub test-in : {parts : List (List ℕ)} {work : List ℕ} {n task : ℕ} → CmdIn parts work n task → 8 ≤ kindAt (nodesIn parts) n
-    → ExpIn parts work (boundsIn task) (placeAt (nodesIn parts) n 0)
+    → ExpIn parts work (runIn task) (slotAt (nodesIn parts) n 0)
 test-in p h =
     let inside = p .inside in
     let below = test-below (p .ready .formed) _ inside h in

@@ -1,3 +1,2 @@
--- What the functions of a run work on and answer.
-pub mod Words
-pub mod Tasks
+-- What the functions of a run work on and answer. No public contract cites it.
+pub mod Inside

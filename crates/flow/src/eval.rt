@@ -1,68 +1,111 @@
 // What an expression gives, by recursion on the node number. The parts of the sheet and the work store come behind a reference each, and the
-// answer is one number: a frame is a few registers. A constant or a field needs no call.
-use crate::cells::STOP;
-use crate::cells::mark_in;
-use crate::cells::operate;
-use crate::cells::seen;
-use crate::cells::value_in;
-use crate::parts::constant_in;
-use crate::parts::kind_in;
-use crate::parts::place_in;
+// answer is one number: a frame is a few registers. A constant or a field needs no call, an operator on two of them no frame: `eval` calls itself
+// below a not or a seal, so the compiler keeps it apart from `expression`.
+use basis::numbers;
+use marks::constant;
+use marks::join;
+use marks::parts::constant_in;
+use marks::parts::kind_in;
+use marks::parts::op_in;
+use marks::parts::slot_in;
+use marks::read;
+use marks::sealed;
+use marks::words::STOP;
+use marks::words::mark_in;
+use marks::words::stop;
+use marks::words::value_in;
+use marks::words::word;
+use value::Computed;
 ghost use mathlib.Core.List.{map};
 ghost use Prim.Native.Nat.{_<_};
-ghost use Rattle.sheet.specs.Nodes.{kindAt};
-ghost use Rattle.flow.specs.Words.{nodesIn, ExpIn, Evaluated};
+ghost use Rattle.nodes.specs.Nodes.{In, kindAt};
+ghost use Rattle.marks.specs.Inside.Parts.{nodesIn};
+ghost use Rattle.marks.specs.Inside.Words.{Place, markIn, Goes};
+ghost use Rattle.marks.specs.Inside.Meanings.{Joins};
+ghost use Rattle.flow.specs.Inside.Tasks.{meaningIn, ExpIn, Evaluated, Operated};
 
-// The constant or the field at node n. `bounds` has BOT and, 16 times, TOP.
-fn leaf(parts: &[&[u8]; 3], work: &[u64; 64], n: usize, bounds: u32) -> u64
-    requires { ⌜ ExpIn (map now (now parts)) (now work) bounds n × (kindAt (nodesIn (map now (now parts))) n < 2) ⌝ }
-    ensures { λ r. ⌜ Evaluated (map now (now (parts .entry))) (now (work .entry)) n r × (r < 9223372036854775808) ⌝ }
+// The operator at node n, on the values in two words.
+fn operate(parts: &[&[u8]; 3], run: u32, n: usize, left: u64, right: u64) -> u64
+    requires { ⌜ Joins (meaningIn (map now (now parts)) run) (markIn left) (markIn right) × In (nodesIn (map now (now parts))) n × Place n ⌝ }
+    ensures { λ r. ⌜ Operated (map now (now (parts .entry))) run n left right r ⌝ }
 {
-    let a = place_in(parts, n, 0);
-    if kind_in(parts, n) == 1 {
-        return work[a];
+    match value::apply(op_in(parts, n), value_in(left), value_in(right)) {
+        Computed::Is(v) => word(v, join(parts, run, mark_in(left), mark_in(right))),
+        Computed::OutOfRange(_) => stop(numbers::OUT_OF_RANGE, n),
+        Computed::DivisorZero => stop(numbers::DIVISOR_ZERO, n),
     }
-    seen(constant_in(parts, a), (bounds % 16) as u8)
 }
 
-// The expression at node n.
-pub fn eval(parts: &[&[u8]; 3], work: &[u64; 64], n: usize, bounds: u32) -> u64
-    requires { ⌜ ExpIn (map now (now parts)) (now work) bounds n ⌝ }
-    ensures { λ r. ⌜ Evaluated (map now (now (parts .entry))) (now (work .entry)) n r ⌝ }
+// The constant or the field at node n.
+fn leaf(parts: &[&[u8]; 3], work: &[u64; 64], n: usize, run: u32) -> u64
+    requires { ⌜ ExpIn (map now (now parts)) (now work) run n × (kindAt (nodesIn (map now (now parts))) n < 2) ⌝ }
+    ensures { λ r. ⌜ Evaluated (map now (now (parts .entry))) (now (work .entry)) run n r × Goes r ⌝ }
+{
+    let a = slot_in(parts, n, 0);
+    if kind_in(parts, n) == 1 {
+        let held = work[a];
+        return word(value_in(held), read(parts, run, a, mark_in(held)));
+    }
+    word(constant_in(parts, a), constant(parts, run))
+}
+
+// The expression at node n. An operator on two leaves, as most are, is answered without a frame.
+pub fn expression(parts: &[&[u8]; 3], work: &[u64; 64], n: usize, run: u32) -> u64
+    requires { ⌜ ExpIn (map now (now parts)) (now work) run n ⌝ }
+    ensures { λ r. ⌜ Evaluated (map now (now (parts .entry))) (now (work .entry)) run n r ⌝ }
+{
+    if kind_in(parts, n) == 2 {
+        let a = slot_in(parts, n, 0);
+        if kind_in(parts, a) < 2 {
+            let b = slot_in(parts, n, 1);
+            if kind_in(parts, b) < 2 {
+                let left = leaf(parts, work, a, run);
+                let right = leaf(parts, work, b, run);
+                return operate(parts, run, n, left, right);
+            }
+        }
+    }
+    eval(parts, work, n, run)
+}
+
+// The same by its parts.
+fn eval(parts: &[&[u8]; 3], work: &[u64; 64], n: usize, run: u32) -> u64
+    requires { ⌜ ExpIn (map now (now parts)) (now work) run n ⌝ }
+    ensures { λ r. ⌜ Evaluated (map now (now (parts .entry))) (now (work .entry)) run n r ⌝ }
 {
     let kind = kind_in(parts, n);
-    let a = place_in(parts, n, 0);
+    let a = slot_in(parts, n, 0);
     if kind == 2 {
         let left = if kind_in(parts, a) < 2 {
-            leaf(parts, work, a, bounds)
+            leaf(parts, work, a, run)
         } else {
-            let x = eval(parts, work, a, bounds);
+            let x = expression(parts, work, a, run);
             if STOP <= x {
                 return x;
             }
             x
         };
-        let b = place_in(parts, n, 1);
+        let b = slot_in(parts, n, 1);
         let right = if kind_in(parts, b) < 2 {
-            leaf(parts, work, b, bounds)
+            leaf(parts, work, b, run)
         } else {
-            let y = eval(parts, work, b, bounds);
+            let y = expression(parts, work, b, run);
             if STOP <= y {
                 return y;
             }
             y
         };
-        return operate(parts, n, left, right);
+        return operate(parts, run, n, left, right);
     }
     if kind < 2 {
-        return leaf(parts, work, n, bounds);
+        return leaf(parts, work, n, run);
     }
-    let z = eval(parts, work, a, bounds);
+    let z = eval(parts, work, a, run);
     if STOP <= z {
         return z;
     }
     if kind == 3 {
-        return seen(value_in(z).not(), mark_in(z));
+        return word(value_in(z).not(), mark_in(z));
     }
-    seen(value_in(z), (bounds / 16 % 16) as u8)
+    word(value_in(z), sealed(parts, run))
 }

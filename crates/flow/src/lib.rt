@@ -1,7 +1,4 @@
 // Runs: what an expression gives and what a command does, over the sheet's nodes and a work store with a word for each field.
-pub mod cells;
 pub mod commands;
 pub mod eval;
-pub mod marks;
-pub mod parts;
-pub mod stores;
+pub mod work;

@@ -11,8 +11,8 @@ use Rattle.basis.proofs.Tests.{None, is-false}
 use Rattle.value.specs.Bytes.{bytesOf}
 use Rattle.value.specs.declared.Value.{Value}
 use Rattle.levels.specs.Lattice.{Lattice, Laws}
-use Rattle.rules.specs.Rules.{Cell, cell, Store}
-use Rattle.rules.specs.Marks.{Mark, whole, partial, levelOf}
+use Rattle.store.specs.Cells.{Cell, cell, Store}
+use Rattle.store.specs.Marks.{Mark, whole, partial, levelOf}
 use Rattle.rules.specs.Agreement as agreement
 use Rattle.rules.specs.Agreement.{Agree, hidden, both-partial, first-partial, second-partial}
 use Rattle.handout.specs.Requests.{askedCount, fieldAsked}

@@ -11,47 +11,48 @@ use Rattle.basis.proofs.Tests.{split, None, first-most, none-first}
 use Rattle.value.specs.Bytes.{bytesOf}
 use Rattle.value.specs.declared.Value.{Value}
 use Rattle.levels.specs.Lattice.{Lattice}
-use Rattle.rules.specs.Rules.{Cell, cell, Store}
-use Rattle.rules.specs.Marks.{Mark, whole, partial, permissive, levelOf}
-use Rattle.rules.specs.Stores.{markOf, storeOf}
-use Rattle.flow.specs.Words.{cellIn}
-use Rattle.flow.proofs.Marking.{marks-known, mark-whole, mark-partial}
-use Rattle.flow.proofs.Entries.{same-mark}
+use Rattle.store.specs.Cells.{Cell, cell, Store}
+use Rattle.store.specs.Marks.{Mark, whole, partial, levelOf, isPartial, markOf, permissive}
+use Rattle.store.specs.Stores.{markAt, cellAt, storeOf}
+use Rattle.store.proofs.Marks.{is-whole, is-partial, marks-known}
 use Rattle.handout.specs.Requests.{askedCount, fieldAsked}
-use Rattle.handout.specs.Answers.{shown, allShown, refuses, refusesAt, firstRefusing}
-use Rattle.handout.specs.Asks.{Faces, AsksAs}
+use Rattle.handout.specs.Answers.{answerEntry, shown, allShown, refuses, refusesAt, firstRefusing}
+use Rattle.handout.specs.Inside.Asks.{Faces, AsksAs}
 use Rattle.handout.proofs.Requesting.{right-has}
 use Rattle.handout.proofs.Alike.{shown-elsewhere}
 
--- the word of a field asked for has a mark that is known
-pub faces : {rows store : List ℕ} {reader : ℕ} {request : List ℕ} → AsksAs rows store reader request → (i word : ℕ) → i < askedCount request
-    → cellIn word ≡ storeOf store (fieldAsked request i) → Faces rows reader word
-faces given i word inside is =
-    let field-known = right-has _ _ (given .asks .right) .known i inside in
+-- a field asked for faces the reader
+pub faces : {rows store : List ℕ} {reader : ℕ} {request : List ℕ} → AsksAs rows store reader request → (position i : ℕ) → position < askedCount request
+    → i ≡ fieldAsked request position → Faces rows store i reader
+faces given position i asked is =
+    let known = right-has _ _ (given .request-right) .known position asked in
     record {
       order = given .order;
       reader-known = given .reader-known;
-      mark = rw (same-mark _ _ word is) (marks-known permissive _ _ _ (given .marks) _ field-known);
+      inside = omega (arith, given .long);
+      mark = marks-known permissive _ _ _ (given .marks) i (omega arith);
     }
 
 module _ (𝓛 : Lattice) (reader : ℕ) where
   -- ── a field ───────────────────────────────────────────────────────────────────────────────
 
+  -- of a store, by its mark
+  module _ (store : List ℕ) (i : ℕ) where
+    pub whole-passes : isPartial (markOf (markAt store i)) ≡ false → refuses 𝓛 reader (storeOf store i) ≡ false
+    unfolding refuses cellAt
+    whole-passes h = rw (is-whole (markOf (markAt store i)) h)
+
+    pub partial-refuses : isPartial (markOf (markAt store i)) ≡ true → refuses 𝓛 reader (storeOf store i) ≡ 𝓛 .le (levelOf (markOf (markAt store i))) reader
+    unfolding refuses cellAt
+    partial-refuses h = rw (is-partial (markOf (markAt store i)) h)
+
   module _ (v : Value) where
-    pub low-passes : (byte : ℕ) → byte < 16 → refuses 𝓛 reader (cell v (markOf byte)) ≡ false
-    unfolding refuses
-    low-passes byte h = rw (mark-whole byte h)
-
-    pub high-refuses : (byte : ℕ) → 16 ≤ byte → refuses 𝓛 reader (cell v (markOf byte)) ≡ 𝓛 .le (levelOf (markOf byte)) reader
-    unfolding refuses
-    high-refuses byte h = rw (mark-partial byte h)
-
     pub shown-below : (m : Mark) → refuses 𝓛 reader (cell v m) ≡ false → 𝓛 .le (levelOf m) reader ≡ true → shown 𝓛 reader (cell v m) ≡ 1 ∷ bytesOf (v .n)
     unfolding refuses shown
     shown-below (whole a) passes below = rw below
     shown-below (partial a) passes below = absurd (true≢false (sym below ∙ passes))
 
-  shown-length : (c : Cell Mark) → refuses 𝓛 reader c ≡ false → length (shown 𝓛 reader c) ≡ 5
+  shown-length : (c : Cell Mark) → refuses 𝓛 reader c ≡ false → length (shown 𝓛 reader c) ≡ answerEntry
   unfolding bytesOf
   shown-length (cell v m) passes =
       split (𝓛 .le (levelOf m) reader) (λ t. ap length (shown-below v m passes t)) (λ f. ap length (shown-elsewhere 𝓛 reader v m f))
@@ -72,10 +73,10 @@ module _ (𝓛 : Lattice) (reader : ℕ) where
     unfolding allShown
     one-shown-more i = ap (allShown 𝓛 reader σ request) (sym (add-one i))
 
-    pub entry-length : (n : ℕ) → None n (refusesAt 𝓛 reader σ request) → (i : ℕ) → i < n → length (shown 𝓛 reader (σ (fieldAsked request i))) ≡ 5
+    pub entry-length : (n : ℕ) → None n (refusesAt 𝓛 reader σ request) → (i : ℕ) → i < n → length (shown 𝓛 reader (σ (fieldAsked request i))) ≡ answerEntry
     entry-length n none i h = shown-length _ (none i h)
 
-  pub entries-length : (σ : Store Mark) (request : List ℕ) (i : ℕ) → None i (refusesAt 𝓛 reader σ request) → length (allShown 𝓛 reader σ request i) ≡ i * 5
+  pub entries-length : (σ : Store Mark) (request : List ℕ) (i : ℕ) → None i (refusesAt 𝓛 reader σ request) → length (allShown 𝓛 reader σ request i) ≡ i * answerEntry
   unfolding allShown
   entries-length σ request zero none = refl
   entries-length σ request (suc i) none =

@@ -3,16 +3,24 @@ use Prim.Native.Nat.{ℕ, zero, suc, _+_, _*_, _%_}
 use mathlib.Core.Bool.{Bool, false, cond}
 use mathlib.Core.List.{List, [], _∷_, _++_}
 use lib.IntN.{pos}
+use lib.ListN.{drop}
 use Rattle.basis.specs.Tests.{first}
 use Rattle.value.specs.Bytes.{bytesOf}
 use Rattle.levels.specs.Lattice.{Lattice}
-use Rattle.rules.specs.Rules.{Cell, cell, Store}
-use Rattle.rules.specs.Marks.{Mark, whole, partial}
+use Rattle.store.specs.Cells.{Cell, cell, Store}
+use Rattle.store.specs.Marks.{Mark, whole, partial}
 use Rattle.handout.specs.Requests.{askedCount, fieldAsked, requestRight}
 
 -- The answer is the count, then per asked field 5 bytes:
+abbrev pub answerEntry : ℕ
+answerEntry = 5
+
+-- where the entry at position i begins
+abbrev pub answerAt : ℕ → ℕ
+answerAt i = 2 + i * answerEntry
+
 abbrev pub answerLength : List ℕ → ℕ
-answerLength request = 2 + askedCount request * 5
+answerLength request = answerAt (askedCount request)
 
 -- 0 and value 0
 abbrev pub withheld : List ℕ
@@ -30,6 +38,10 @@ module _ (𝓛 : Lattice) (reader : ℕ) where
 
   unfoldable pub answerBytes : Store Mark → List ℕ → List ℕ
   answerBytes σ request = askedCount request % 256 ∷ 0 ∷ allShown σ request (askedCount request)
+
+  -- Success writes exactly the answer; later bytes stay.
+  abbrev pub answerOver : Store Mark → List ℕ → List ℕ → List ℕ
+  answerOver σ request out = answerBytes σ request ++ drop (answerLength request) out
 
   -- A partial field at or below the reader refuses all of it: a blank in one run and a price in the other would tell.
   unfoldable pub refuses : Cell Mark → Bool

@@ -1,4 +1,4 @@
--- Document 01, "Hand-out": requests, and the answers that they get. Only contracts inside the product cite `Asks`.
+-- Document 01, "Hand-out": requests, and the answers that they get. `Inside` serves functions only.
 pub mod Requests
 pub mod Answers
-pub mod Asks
+pub mod Inside

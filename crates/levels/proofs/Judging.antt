@@ -12,7 +12,7 @@ use lib.Bits.{and-self, and-comm, and-le-l}
 use lib.Pow.{ones-lt}
 use Rattle.basis.proofs.Tests.{both, and-of, split, all-at, all-of, iff}
 use Rattle.levels.specs.Levels.{count, rowAt, below, right}
-use Rattle.levels.specs.Judging.{aboveBoth, isRow, pairRight, levelRight}
+use Rattle.levels.specs.Inside.Judging.{aboveBoth, isRow, pairRight, levelRight}
 use Rattle.levels.proofs.Sets.{same-bits, bit-full}
 use Rattle.levels.proofs.Order.{Order, IsJoin, has-join, turn, meets}
 use Rattle.levels.proofs.Facts.{Right, facts, passes}

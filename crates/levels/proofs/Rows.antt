@@ -9,7 +9,7 @@ use lib.Bits.{and-lt}
 use lib.Pow.{ones-lt}
 use Rattle.basis.proofs.Tests.{both, and-of, which-at, some-of, iff}
 use Rattle.levels.specs.Levels.{bit, count, rowAt, below, right, joinOf, lowestOf}
-use Rattle.levels.specs.Judging.{aboveBoth, isRow, WithRow}
+use Rattle.levels.specs.Inside.Judging.{aboveBoth, isRow, WithRow}
 use Rattle.levels.proofs.Sets.{bit-and, bit-ext, bit-full}
 use Rattle.levels.proofs.Order.{IsJoin}
 use Rattle.levels.proofs.Facts.{facts}

@@ -52,7 +52,7 @@ module _ (s : List ℕ) where
   }
 
 -- one name that opens all of these, so that worked examples compute
-unfoldable pub running : Unit {0}
+unfoldable pub ordering : Unit {0}
 unfolding all some which below reflexive antisymmetric transitive isJoin joins isMeet meets noBitPast right
     joinOf meetOf lowestOf highestOf level lattice
-running = tt
+ordering = tt

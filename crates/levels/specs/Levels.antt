@@ -1,8 +1,7 @@
 -- The levels of a sheet, in document 01's words and order: what its rows say, when they are right, and the join, the meet, the lowest and the
 -- highest level. `s` is the levels section, its entries without the count. All of it computes.
-use Prim.Native.Nat.{ℕ, _*_, _/_, _%_, _^_, _<_}
-use mathlib.Core.Path.{_≡_}
-use mathlib.Core.Bool.{Bool, true, _&&_}
+use Prim.Native.Nat.{ℕ, _*_, _/_, _%_, _^_}
+use mathlib.Core.Bool.{Bool, _&&_}
 use mathlib.Core.List.{List}
 use lib.ListN.{length}
 use lib.Dec.{ltb, leb, eqb}
@@ -70,9 +69,3 @@ module _ (s : List ℕ) where
 
   unfoldable pub highestOf : ℕ
   highestOf = which count (λ i. all count (λ j. below j i))
-
-  -- what a function of two levels may rely on: right rows, and two levels of them
-  pub record Two (i j : ℕ) : Type 0 where
-    pub rows : right ≡ true
-    pub first : i < count
-    pub second : j < count

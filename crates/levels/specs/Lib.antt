@@ -1,5 +1,4 @@
--- `Levels` is what a reader must believe. `Lattice` is the same as operations with laws, for theorems about runs. `Judging` serves private
--- functions only.
-pub mod Judging
-pub mod Lattice
+-- `Levels` is what a reader must believe. `Lattice` is the same as operations with laws, for theorems about runs. `Inside` serves functions only.
 pub mod Levels
+pub mod Lattice
+pub mod Inside

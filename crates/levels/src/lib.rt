@@ -4,8 +4,9 @@
 ghost use mathlib.Core.Path.{_≡_};
 ghost use mathlib.Core.Bool.{true};
 ghost use Prim.Native.Nat.{_-_, _^_, _<_, _≤_};
-ghost use Rattle.levels.specs.Levels.{bit, count, rowAt, below, right, joinOf, meetOf, lowestOf, highestOf, Two};
-ghost use Rattle.levels.specs.Judging.{aboveBoth, WithRow, pairRight, levelRight};
+ghost use Rattle.levels.specs.Levels.{bit, count, rowAt, below, right, joinOf, meetOf, lowestOf, highestOf};
+ghost use Rattle.levels.specs.Inside.Two.{Two};
+ghost use Rattle.levels.specs.Inside.Judging.{aboveBoth, WithRow, pairRight, levelRight};
 
 // Whether the rows are right: number 3 if not. Joins are judged pair by pair; where every two levels have a join, they have a meet too if one
 // level lies below all.

@@ -7,8 +7,9 @@ use borrow.Author.Tests.{ltb-false, eq-eqb, ne-eqb}
 use lib.ListN.{length, take, drop, length-drop}
 use lib.Seq.{drop-length}
 use Rattle.basis.specs.Bytes.{wordAt}
-use Rattle.sheet.proofs.Parts.{rest-is}
-use Rattle.report.specs.File.{sheetEnd, storeIn, isCut, Complete}
+use Rattle.sections.proofs.Parts.{rest-is}
+use Rattle.report.specs.File.{sheetEnd, storeIn, isCut}
+use Rattle.report.specs.Inside.Given.{Complete}
 
 module _ (file : List ℕ) where
   pub complete : isCut file ≡ false → Complete file

@@ -10,7 +10,7 @@ use lib.ListN.{length, getD, take, drop, length-append, length-drop, List·getD-
 use lib.Seq.{take-append-le, drop-append-le}
 use Rattle.basis.specs.Bytes.{wordAt}
 use Rattle.report.specs.File.{modeIn, fuelIn, sheetIn, sheetEnd, storeIn, isCut}
-use Rattle.report.specs.Report.{reportOf}
+use Rattle.report.specs.Report.{outcomeOf, runText, reportOf}
 
 -- a store of another length than the file gives counts as none
 store-none : (file : List ℕ) → (length (drop (sheetEnd file + 2) file) ≡ wordAt file (sheetEnd file) → ⊥) → storeIn file ≡ []
@@ -66,7 +66,7 @@ module _ (first more : List ℕ) (long : 131080 ≤ length first) where
 
     -- so what is printed for the first bytes is what is printed for all
     pub longer-same : reportOf all ≡ reportOf first
-    unfolding reportOf
+    unfolding reportOf runText outcomeOf
     longer-same =
         rw (
           not-cut all (omega (arith, end-same, small 5, length-append first more)),

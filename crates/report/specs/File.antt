@@ -1,5 +1,5 @@
 -- Document 01, "Trials": what the runner program reads, taken apart. All numbers little-endian.
-use Prim.Native.Nat.{ℕ, _+_, _*_, _≤_}
+use Prim.Native.Nat.{ℕ, _+_, _*_}
 use mathlib.Core.Bool.{Bool, cond}
 use mathlib.Core.List.{List, []}
 use lib.ListN.{length, getD, take, drop}
@@ -25,9 +25,6 @@ sheetEnd file = 7 + wordAt file 5
 unfoldable pub storeIn : List ℕ → List ℕ
 storeIn file = cond (eqb (length (drop (sheetEnd file + 2) file)) (wordAt file (sheetEnd file))) (drop (sheetEnd file + 2) file) []
 
--- A file cut before the store's length is complete, and one that is not
+-- a file cut before the store's length is complete
 unfoldable pub isCut : List ℕ → Bool
 isCut file = ltb (length file) (sheetEnd file + 2)
-
-abbrev pub Complete : List ℕ → Type 0
-Complete file = sheetEnd file + 2 ≤ length file

@@ -5,10 +5,12 @@ use mathlib.Core.List.{List, [], _∷_, _++_}
 use lib.ListN.{length}
 use lib.Dec.{eqb, ltb}
 use lib.IntN.{ℤ, pos, negsuc}
-use Rattle.sheet.specs.Names.{nameByte}
-use Rattle.rules.specs.Rules.{Cell, cell}
-use Rattle.rules.specs.Marks.{Mark, whole, partial}
-use Rattle.rules.specs.Stores.{cellAt}
+use Rattle.basis.specs.Numbers as numbers
+use Rattle.basis.specs.declared.answer.Answer.{Answer}
+use Rattle.names.specs.Names.{nameByte}
+use Rattle.store.specs.Cells.{Cell, cell}
+use Rattle.store.specs.Marks.{Mark, whole, partial, levelOf}
+use Rattle.store.specs.Stores.{cellAt}
 
 -- Parts of a line stand one blank apart, each line ends in LF,
 abbrev pub blank : List ℕ
@@ -53,39 +55,38 @@ signed (pos n) = decimal n
 signed (negsuc n) = 45 ∷ decimal (suc n)
 
 -- and a name is printed without its zero bytes.
-unfoldable pub shown : ℕ → List ℕ
-shown byte = cond (eqb byte 0) [] (byte ∷ [])
+unfoldable pub withoutZero : ℕ → List ℕ
+withoutZero byte = cond (eqb byte 0) [] (byte ∷ [])
 
 unfoldable pub nameOf : List ℕ → ℕ → List ℕ
-nameOf fields i = each 8 (λ k. shown (nameByte fields i k))
+nameOf fields i = each 8 (λ k. withoutZero (nameByte fields i k))
 
 -- level, `whole` or `partial`
+abbrev pub markWord : Mark → List ℕ
+markWord (whole level) = wholeWord
+markWord (partial level) = partialWord
+
 unfoldable pub markText : Mark → List ℕ
-markText (whole level) = decimal level ++ (blank ++ wholeWord)
-markText (partial level) = decimal level ++ (blank ++ partialWord)
+markText mark = part (levelOf mark) ++ (blank ++ markWord mark)
 
 -- then after `done` a line per field: name, level, `whole` or `partial`, value
 unfoldable pub cellText : Cell Mark → List ℕ
 cellText (cell value mark) = markText mark ++ blank ++ signed (value .n)
 
 unfoldable pub fieldLine : List ℕ → List ℕ → ℕ → List ℕ
-fieldLine fields store i = nameOf fields i ++ blank ++ cellText (cellAt store i) ++ lineEnd
+fieldLine fields store i = nameOf fields i ++ cellText (cellAt store i) ++ lineEnd
 
-abbrev pub fieldLines : List ℕ → List ℕ → ℕ → List ℕ
-fieldLines fields store n = each n (fieldLine fields store)
+abbrev pub fieldLines : List ℕ → List ℕ → List ℕ
+fieldLines fields store = each (length fields / 8) (fieldLine fields store)
 
 -- It prints `done` and units,
-unfoldable pub doneText : ℕ → List ℕ → List ℕ → ℕ → List ℕ
-doneText units fields store n = doneWord ++ part units ++ lineEnd ++ fieldLines fields store n
+unfoldable pub doneText : ℕ → List ℕ → List ℕ → List ℕ
+doneText units fields store = doneWord ++ part units ++ lineEnd ++ fieldLines fields store
 
 -- or `refused`, number, place and units
-unfoldable pub refusedText : ℕ → ℕ → ℕ → List ℕ
-refusedText number place units = refusedWord ++ part number ++ part place ++ part units ++ lineEnd
+unfoldable pub refusedText : Answer → List ℕ
+refusedText answer = refusedWord ++ part (answer .number) ++ part (answer .place) ++ part (answer .units) ++ lineEnd
 
--- What comes back: the number in bits 0 to 7, the place in bits 8 to 23, the units in bits 32 to 63. Success is number 0.
-unfoldable pub printed : ℕ → List ℕ → List ℕ → List ℕ
-printed word fields store =
-    cond
-    (eqb (word % 256) 0)
-    (doneText (word / 4294967296) fields store (length fields / 8))
-    (refusedText (word % 256) (word / 256 % 65536) (word / 4294967296))
+-- What comes back: success is number 0.
+unfoldable pub printed : Answer → List ℕ → List ℕ → List ℕ
+printed answer fields store = cond (eqb (answer .number) numbers.done) (doneText (answer .units) fields store) (refusedText answer)

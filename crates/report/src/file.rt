@@ -3,7 +3,8 @@ use basis::word;
 ghost use Prim.Native.Nat.{_≤_, _<_};
 ghost use mathlib.Core.Path.{_≡_};
 ghost use lib.ListN.{length};
-ghost use Rattle.report.specs.File.{modeIn, fuelIn, sheetEnd, sheetIn, storeIn, isCut, Complete};
+ghost use Rattle.report.specs.File.{modeIn, fuelIn, sheetEnd, sheetIn, storeIn, isCut};
+ghost use Rattle.report.specs.Inside.Given.{Complete};
 
 // Whether the file is cut before the store's length is complete.
 pub fn is_cut(file: &[u8]) -> bool

@@ -3,53 +3,45 @@ use crate::field::put_lines;
 use crate::number::put_byte;
 use crate::number::put_part;
 use crate::number::put_text;
-ghost use Prim.Native.Nat.{_≤_, _*_, _/_, _%_};
+use basis::answer::Answer;
+use basis::numbers::DONE;
+ghost use Prim.Native.Nat.{_≤_};
 ghost use mathlib.Core.Path.{_≡_};
 ghost use lib.ListN.{length};
-ghost use Rattle.rules.specs.Stores.{storeLength};
-ghost use Rattle.report.specs.Putting.{Room, Put, Begins};
+ghost use Rattle.report.specs.Inside.Given.{Final};
+ghost use Rattle.report.specs.Report.{longest, Begins};
 ghost use Rattle.report.specs.Text.{doneText, refusedText, printed};
 
 // `done` and units, then a line per field.
-fn put_done(out: &mut [u8], at: usize, units: u32, fields: &[u8], store: &[u8], n: usize) -> usize
-    requires { ⌜ (n * 8 ≤ length (now fields)) × (storeLength n ≤ length (now store)) × Room (now out) at (doneText units (now fields) (now store) n) ⌝ }
-    ensures { λ r. ⌜ Put (now (out .entry)) (now (out .exit)) at (doneText units (now (fields .entry)) (now (store .entry)) n) r ⌝ }
+fn print_done(units: u32, fields: &[u8], store: &[u8], out: &mut [u8]) -> usize
+    requires { ⌜ Final (now fields) (now store) × (longest ≤ length (now out)) ⌝ }
+    ensures { λ r. ⌜ Begins (now (out .exit)) (doneText units (now (fields .entry)) (now (store .entry))) r ⌝ }
 {
-    let done = put_text(out, at, b"done");
-    let head = put_part(out, done, units);
-    let lines = put_byte(out, head, b'\n');
-    put_lines(out, lines, fields, store, n)
+    let done = put_text(out, 0, b"done");
+    let spent = put_part(out, done, units);
+    let head = put_byte(out, spent, b'\n');
+    put_lines(out, head, fields, store)
 }
 
 // `refused`, number, place and units.
-pub fn put_refused(out: &mut [u8], at: usize, number: u32, place: u32, units: u32) -> usize
-    requires { ⌜ Room (now out) at (refusedText number place units) ⌝ }
-    ensures { λ r. ⌜ Put (now (out .entry)) (now (out .exit)) at (refusedText number place units) r ⌝ }
+pub fn print_refused(answer: Answer, out: &mut [u8]) -> usize
+    requires { ⌜ longest ≤ length (now out) ⌝ }
+    ensures { λ r. ⌜ Begins (now (out .exit)) (refusedText answer) r ⌝ }
 {
-    let refused = put_text(out, at, b"refused");
-    let first = put_part(out, refused, number);
-    let second = put_part(out, first, place);
-    let third = put_part(out, second, units);
-    put_byte(out, third, b'\n')
+    let refused = put_text(out, 0, b"refused");
+    let number = put_part(out, refused, answer.number as u32);
+    let place = put_part(out, number, answer.place as u32);
+    let units = put_part(out, place, answer.units);
+    put_byte(out, units, b'\n')
 }
 
-// The text of what the run's answer says.
-fn put_printed(out: &mut [u8], at: usize, word: u64, fields: &[u8], store: &[u8]) -> usize
-    requires { ⌜ (word % 256 ≡ 0 → storeLength (length (now fields) / 8) ≤ length (now store)) × Room (now out) at (printed word (now fields) (now store)) ⌝ }
-    ensures { λ r. ⌜ Put (now (out .entry)) (now (out .exit)) at (printed word (now (fields .entry)) (now (store .entry))) r ⌝ }
+// The text of an answer. What a run that is done gave is at hand.
+pub fn print(answer: Answer, fields: &[u8], store: &[u8], out: &mut [u8]) -> usize
+    requires { ⌜ (answer .number ≡ 0 → Final (now fields) (now store)) × (longest ≤ length (now out)) ⌝ }
+    ensures { λ r. ⌜ Begins (now (out .exit)) (printed answer (now (fields .entry)) (now (store .entry))) r ⌝ }
 {
-    let number = word % 256;
-    let units = (word / 4294967296) as u32;
-    if number == 0 {
-        return put_done(out, at, units, fields, store, fields.len() / 8);
+    if answer.number == DONE {
+        return print_done(answer.units, fields, store, out);
     }
-    put_refused(out, at, number as u32, (word / 256 % 65536) as u32, units)
-}
-
-// The same from the buffer's start. The longest text is that of 64 fields.
-pub fn print(word: u64, fields: &[u8], store: &[u8], out: &mut [u8]) -> usize
-    requires { ⌜ (word % 256 ≡ 0 → (length (now fields) ≤ 512) × (storeLength (length (now fields) / 8) ≤ length (now store))) × (2128 ≤ length (now out)) ⌝ }
-    ensures { λ r. ⌜ Begins (now (out .exit)) (printed word (now (fields .entry)) (now (store .entry))) r ⌝ }
-{
-    put_printed(out, 0, word, fields, store)
+    print_refused(answer, out)
 }

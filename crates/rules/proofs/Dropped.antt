@@ -7,9 +7,11 @@ use Rattle.value.specs.Values.{operatorOf, isTrue}
 use Rattle.value.specs.declared.Value.{Value}
 use Rattle.sheet.specs.Trees.{Exp, constant, field, operator, not, seal, Cmd, skip, assign, sequence, ifElse, while}
 use Rattle.levels.specs.Lattice.{Lattice, Laws}
-use Rattle.rules.specs.Rules.{Cell, cell, Store, Result, gives, stops, End, done}
-use Rattle.rules.specs.Rules.{at, with, choose, spend, bind, computed, reading, operated, inverted, sealing, eval, branch, tested, rounds, exec}
-use Rattle.rules.specs.Marks.{Mark, whole, partial, Mode, strict, permissive, levelOf, joined, entered, stored, marking}
+use Rattle.store.specs.Cells.{Cell, cell, Store}
+use Rattle.rules.specs.Ends.{Result, gives, stops, End, done, at, with, choose, spend, bind}
+use Rattle.rules.specs.Rules.{computed, reading, operated, inverted, sealing, eval, branch, tested, rounds, execBy, exec}
+use Rattle.store.specs.Marks.{Mark, whole, partial, Mode, strict, permissive, levelOf}
+use Rattle.rules.specs.LevelMarks.{joined, entered, stored, marking}
 use Rattle.rules.specs.Dropped.{dropping, execDropping, DroppingSame}
 use Rattle.rules.proofs.Pairs.{Results, results, at-results, any-fines, then-results}
 use Rattle.rules.proofs.Moves.{Fine, good, bad, Moves, Later, stays, moves, Ran, ran, ran-spent, ran-stopped, exec-ran}
@@ -174,14 +176,14 @@ module _ (𝓛 : Lattice) (𝓘 : Laws 𝓛) where
 
       while-same : (context : ℕ) (σ : Store Mark) (fuel : ℕ)
           → dropping (marking 𝓛 mode) place e body fuel context σ fuel ≡ exec (marking 𝓛 mode) (while place e c) context σ fuel
-      unfolding exec
+      unfolding execBy
       while-same context σ fuel = sym (same-rounds fuel context context σ fuel (λ v b is. refl))
 
     pointwise : {f g : ℕ → Store Mark → ℕ → End Mark} → ((context : ℕ) (σ : Store Mark) (fuel : ℕ) → f context σ fuel ≡ g context σ fuel) → f ≡ g
     pointwise h = fun-ext (λ context. fun-ext (λ σ. fun-ext (λ fuel. h context σ fuel)))
 
     same : (c : Cmd) → execDropping (marking 𝓛 mode) c ≡ exec (marking 𝓛 mode) c
-    unfolding execDropping exec
+    unfolding execBy
     same (skip place) = refl
     same (assign place i b) = refl
     same (sequence a b) = pointwise (λ context σ fuel. rw (same a, same b))

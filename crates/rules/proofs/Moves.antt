@@ -8,8 +8,9 @@ use Rattle.basis.proofs.Tests.{split}
 use Rattle.value.specs.Values.{isTrue}
 use Rattle.value.specs.declared.Value.{Value}
 use Rattle.sheet.specs.Trees.{Exp, Cmd, skip, assign, sequence, ifElse, while}
-use Rattle.rules.specs.Rules.{Why, Try, fine, fails, Marking, Cell, cell, Store, put, Result, gives, stops, End, done, spent, stopped}
-use Rattle.rules.specs.Rules.{at, andThen, with, choose, spend, bind, eval, updated, branch, tested, rounds, exec}
+use Rattle.rules.specs.Ends.{Why, Try, fine, fails, Result, gives, stops, End, done, spent, stopped, at, andThen, with, choose, spend, bind}
+use Rattle.rules.specs.Rules.{Marking, put, eval, updated, branch, tested, rounds, execBy, exec}
+use Rattle.store.specs.Cells.{Cell, cell, Store}
 
 -- a cell put at a field, where a relation holds there and everywhere else
 pub put-each : {A B : Type 0} (P : Cell A → Cell B → Type 0) (i : ℕ) (σ : Store A) (c : Cell B) (τ : Store B)
@@ -121,7 +122,7 @@ module _ {Mark Seen Context : Type 0} {𝓜 : Marking Mark Seen Context} (𝓢 :
       (λ left c in-c. unmoved)
 
   pub exec-ran : (c : Cmd) (σ : Store Mark) (fuel : ℕ) → Keeps σ (λ context. exec 𝓜 c context σ fuel)
-  unfolding exec
+  unfolding execBy
   exec-ran (skip place) σ fuel context inside = spend-ran place fuel (λ left. unmoved)
   exec-ran (assign place i b) σ fuel context inside =
       spend-ran place fuel (λ left. with-ran (eval 𝓜 b σ) left (λ x. updated-ran place i context σ (σ i) x left inside refl))

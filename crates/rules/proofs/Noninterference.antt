@@ -9,8 +9,9 @@ use Rattle.basis.proofs.Tests.{split}
 use Rattle.value.specs.Values.{operatorOf, isTrue}
 use Rattle.value.specs.declared.Value.{Value}
 use Rattle.sheet.specs.Trees.{Exp, constant, field, operator, not, seal, Cmd, skip, assign, sequence, ifElse, while}
-use Rattle.rules.specs.Rules.{Marking, Cell, cell, Store, put, Result, gives, stops, End, done}
-use Rattle.rules.specs.Rules.{at, andThen, choose, bind, computed, reading, operated, inverted, sealing, eval, updated, branch, tested, rounds, exec}
+use Rattle.rules.specs.Rules.{Marking, put, computed, reading, operated, inverted, sealing, eval, updated, branch, tested, rounds, execBy, exec}
+use Rattle.store.specs.Cells.{Cell, cell, Store}
+use Rattle.rules.specs.Ends.{Result, gives, stops, End, done, at, andThen, choose, bind}
 use Rattle.rules.proofs.Pairs.{Fines, Results, results, stops-first, Ends, dones, spent-first, spent-second, stopped-first, stopped-second}
 use Rattle.rules.proofs.Pairs.{both-done, at-results, any-fines, then-results, spend-ends, with-ends, bind-ends}
 use Rattle.rules.proofs.Moves.{Moves, Later, stays, moves, Ran, ran, ran-spent, ran-stopped, Keeps, unmoved, bind-ran, choose-ran, rounds-ran, exec-ran}
@@ -200,7 +201,7 @@ module _ {Mark Seen Context : Type 0} (𝓜 : Marking Mark Seen Context) (𝓢 :
   side c σ τ f g h = record { known = h; first = exec-ran (𝓢 .moving) c σ f; second = exec-ran (𝓢 .moving) c τ g }
 
   exec-both : (c : Cmd) (context : Context) (f g : ℕ) (σ τ : Store Mark) → AlikeStores σ τ → Both (exec 𝓜 c context σ f) (exec 𝓜 c context τ g)
-  unfolding exec
+  unfolding execBy
   exec-both (skip place) context f g σ τ h = spend-ends place f g (λ f g. dones h)
   exec-both (assign place i b) context f g σ τ h =
       spend-ends place f g (λ f g. with-ends f g (eval-alike b h) (λ c d x.

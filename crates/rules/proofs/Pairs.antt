@@ -1,7 +1,7 @@
 -- Two questions, two results or two ends side by side: a relation that holds where both go on. Where either stops, nothing is asked.
 use Prim.Native.Nat.{ℕ, zero, suc}
-use Rattle.rules.specs.Rules.{Why, Try, fine, fails, Result, gives, stops, Store, End, done, spent, stopped}
-use Rattle.rules.specs.Rules.{at, andThen, with, spend, bind}
+use Rattle.rules.specs.Ends.{Why, Try, fine, fails, Result, gives, stops, End, done, spent, stopped, at, andThen, with, spend, bind}
+use Rattle.store.specs.Cells.{Store}
 
 pub data Fines {A B : Type 0} (P : A → B → Type 0) : Try A → Try B → Type 0 where
   fines : {a : A} {b : B} → P a b → Fines P (fine a) (fine b)

@@ -11,9 +11,11 @@ use Rattle.levels.specs.Lattice.{Lattice, Laws}
 use Rattle.levels.proofs.Joins.{join-comm}
 use Rattle.sheet.specs.Trees as tree
 use Rattle.sheet.specs.Trees.{Exp, constant, field, operator, Cmd, assign, sequence, ifElse, while}
-use Rattle.rules.specs.Rules.{Why, Cell, cell, Store, put, Result, gives, stops, End, done, spent, stopped}
-use Rattle.rules.specs.Rules.{at, andThen, with, choose, spend, bind, computed, reading, operated, inverted, sealing, eval, updated, branch, tested, rounds, exec}
-use Rattle.rules.specs.Marks.{Mark, whole, partial, Mode, strict, permissive, levelOf, joined, entered, stored, marking}
+use Rattle.rules.specs.Ends.{Why, Result, gives, stops, End, done, spent, stopped, at, andThen, with, choose, spend, bind}
+use Rattle.store.specs.Cells.{Cell, cell, Store}
+use Rattle.rules.specs.Rules.{put, computed, reading, operated, inverted, sealing, eval, updated, branch, tested, rounds, execBy, exec}
+use Rattle.store.specs.Marks.{Mark, whole, partial, Mode, strict, permissive, levelOf}
+use Rattle.rules.specs.LevelMarks.{joined, entered, stored, marking}
 use Rattle.rules.proofs.Units.{while-law}
 use Rattle.rules.specs.Published.{Evaluates, const, var, oper, not, seal, Executes, skip, seq, if-else-t, if-else-f, while-t, while-f, assn-NSU, assn-1, assn-2}
 use Rattle.rules.specs.Published.{Runs, RunsAsPublished}
@@ -159,7 +161,7 @@ module _ (𝓛 : Lattice) (𝓘 : Laws 𝓛) where
       over (after w t) = while-f w t
 
   exec-leads : (mode : Mode) (c : Cmd) (pc : ℕ) (σ : Store Mark) (fuel : ℕ) → Leads (Executes 𝓛 mode c pc σ) (exec (marking 𝓛 mode) c pc σ fuel)
-  unfolding exec
+  unfolding execBy
   exec-leads mode (tree.skip place) pc σ fuel = spend-leads place fuel (λ left. leads skip)
   exec-leads mode (assign place x e) pc σ fuel =
       spend-leads place fuel (λ left. with-leads left (eval-yields mode e σ) (λ c r. updated-leads mode place x pc left σ e (σ x) c refl r))
@@ -203,11 +205,11 @@ module _ (𝓛 : Lattice) (𝓘 : Laws 𝓛) where
 
     module _ (place pc : ℕ) {A : ℕ} {e : Exp} {σ : Store Mark} {n : Value} (w : Evaluates 𝓛 σ e n (whole A)) where
       chosen : (a b : Cmd) (τ : Store Mark) → isTrue n ≡ true → Runs 𝓛 mode a (𝓛 .join pc A) σ τ → Runs 𝓛 mode (ifElse place e a b) pc σ τ
-      unfolding exec tested spend with branch at choose entered
+      unfolding execBy tested spend with branch at choose entered
       chosen a b τ t x = record { fuel = suc (x .fuel); left = x .left; ends = rw (eval-is mode w, t) (x .ends) }
 
       other : (a b : Cmd) (τ : Store Mark) → isTrue n ≡ false → Runs 𝓛 mode b (𝓛 .join pc A) σ τ → Runs 𝓛 mode (ifElse place e a b) pc σ τ
-      unfolding exec tested spend with branch at choose entered
+      unfolding execBy tested spend with branch at choose entered
       other a b τ t x = record { fuel = suc (x .fuel); left = x .left; ends = rw (eval-is mode w, t) (x .ends) }
 
       round : (c : Cmd) (τ : Store Mark) → isTrue n ≡ true
@@ -228,7 +230,7 @@ module _ (𝓛 : Lattice) (𝓘 : Laws 𝓛) where
   one-unit e = record { fuel = 1; left = 0; ends = e }
 
   runs : {mode : Mode} {c : Cmd} {pc : ℕ} {σ τ : Store Mark} → Executes 𝓛 mode c pc σ τ → Runs 𝓛 mode c pc σ τ
-  unfolding exec spend with andThen updated at stored
+  unfolding execBy spend with andThen updated at stored
   runs skip = one-unit refl
   runs (seq {mode} {pc} {c₁} {c₂} {σ} {σ″} {σ′} s t) =
       let (fuel, left, e) = two-runs mode c₁ c₂ pc σ σ″ σ′ (runs s) (runs t) in

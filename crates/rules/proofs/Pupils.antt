@@ -8,14 +8,15 @@ use lib.IntN.{pos}
 use Rattle.value.specs.Values.{operating}
 use Rattle.value.specs.declared.Value.{Value}
 use Rattle.levels.specs.Levels.{right}
-use Rattle.levels.specs.Lattice as levels
-use Rattle.levels.specs.Lattice.{lattice}
+use Rattle.levels.specs.Lattice.{lattice, ordering}
 use Rattle.levels.proofs.Laws.{laws}
 use Rattle.sheet.specs.Trees.{constant, field, operator, Cmd, skip, assign, sequence, ifElse, while}
-use Rattle.rules.specs.Rules.{Cell, cell, Store, running}
-use Rattle.rules.specs.Marks.{Mark, whole, partial, permissive, joined, entered, stored}
+use Rattle.store.specs.Cells.{Cell, cell, Store}
+use Rattle.rules.specs.Rules.{running}
+use Rattle.store.specs.Marks.{Mark, whole, partial, permissive}
+use Rattle.rules.specs.LevelMarks.{joined, entered, stored}
 use Rattle.rules.specs.Agreement.{Agree, shown, hidden, second-partial}
-use Rattle.rules.specs.Pupils.{KeepsSecrets, aKept, oldContextLater, PupilsCaught, storedKeeping, laterRounds, execOld}
+use Rattle.rules.specs.Pupils.{KeepsSecrets, aKept, oldContextLater, PupilsCaught, storedKeeping, laterRounds}
 use Rattle.rules.proofs.SafeMarks.{noninterference}
 
 number : ℕ → Value
@@ -32,7 +33,7 @@ diamond : List ℕ
 diamond = 15 ∷ 0 ∷ 10 ∷ 0 ∷ 12 ∷ 0 ∷ 8 ∷ 0 ∷ []
 
 diamond-right : right diamond ≡ true
-unfolding diamond levels.running
+unfolding diamond ordering
 diamond-right = refl
 
 -- if field 0 then field 1 := 5 else skip, for the reader at level 1: field 0 is whole 1; field 1 is whole 3 in the first store and whole 2 in the second
@@ -43,18 +44,18 @@ start : ℕ → Store Mark
 start A = fields (cell (number 1) (whole 1)) (cell (number 0) (whole A))
 
 start-agree : (i : ℕ) → Agree (lattice diamond) 1 (start 3 i) (start 2 i)
-unfolding start fields diamond levels.running
+unfolding start fields diamond ordering
 start-agree zero = shown refl
 start-agree (suc i) = hidden refl refl
 
 -- whole 1 does not agree with partial 2 for him
 apart : Agree (lattice diamond) 1 (cell (number 5) (whole 1)) (cell (number 5) (partial 2)) → ⊥
-unfolding diamond levels.running
+unfolding diamond ordering
 apart (second-partial (inl e)) = true≢false e
 apart (second-partial (inr e)) = true≢false (sym e)
 
 a-kept-leaks : KeepsSecrets aKept → ⊥
-unfolding assigns start fields number diamond levels.running running operating joined entered storedKeeping
+unfolding assigns start fields number diamond ordering running operating joined entered storedKeeping stored
 a-kept-leaks keeps =
     apart (keeps (lattice diamond) (laws diamond diamond-right) 1 refl permissive assigns 0 2 2 (start 3) (start 2) start-agree _ _ 0 0 refl refl 1)
 
@@ -64,7 +65,7 @@ two : List ℕ
 two = 3 ∷ 0 ∷ 2 ∷ 0 ∷ []
 
 two-right : right two ≡ true
-unfolding two levels.running
+unfolding two ordering
 two-right = refl
 
 -- while field 0 do (field 1 := 1; field 0 := field 0 - 1), for the reader at level 0: field 0 is whole 1, at 0 in the first store and at 2 in the
@@ -76,17 +77,17 @@ from : ℕ → Store Mark
 from n = fields (cell (number n) (whole 1)) (cell (number 0) (whole 0))
 
 from-agree : (i : ℕ) → Agree (lattice two) 0 (from 0 i) (from 2 i)
-unfolding from fields two levels.running
+unfolding from fields two ordering
 from-agree zero = hidden refl refl
 from-agree (suc i) = shown refl
 
 -- 0 does not agree with 1 for him
 told : Agree (lattice two) 0 (cell (number 0) (whole 0)) (cell (number 1) (whole 0)) → ⊥
-unfolding number two levels.running
+unfolding number two ordering
 told (hidden e d) = true≢false e
 
 old-context-leaks : KeepsSecrets oldContextLater → ⊥
-unfolding counts from fields number two levels.running running operating joined entered stored laterRounds execOld
+unfolding counts from fields number two ordering running operating joined entered stored laterRounds
 old-context-leaks keeps =
     told (keeps (lattice two) (laws two two-right) 0 refl permissive counts 0 1 7 (from 0) (from 2) from-agree _ _ 0 0 refl refl 1)
 

@@ -7,8 +7,11 @@ use mathlib.Core.Logic.{_⊎_, inl, inr}
 use Rattle.basis.proofs.Tests.{split, is-false}
 use Rattle.sheet.specs.Trees.{Cmd}
 use Rattle.levels.specs.Lattice.{Lattice, Laws}
-use Rattle.rules.specs.Rules.{Cell, cell, Store, done, exec}
-use Rattle.rules.specs.Marks.{Mark, whole, partial, Mode, strict, permissive, levelOf, joined, entered, stored, marking}
+use Rattle.store.specs.Cells.{Cell, cell, Store}
+use Rattle.rules.specs.Ends.{done}
+use Rattle.rules.specs.Rules.{exec}
+use Rattle.store.specs.Marks.{Mark, whole, partial, Mode, strict, permissive, levelOf}
+use Rattle.rules.specs.LevelMarks.{joined, entered, stored, marking}
 use Rattle.rules.specs.Agreement.{Agree, shown, hidden, both-partial, first-partial, second-partial}
 use Rattle.rules.proofs.Pairs.{Fines, fines, fails-first, fails-second}
 use Rattle.rules.proofs.Moves.{Fine, good, bad, Moves}

@@ -9,13 +9,15 @@ use borrow.Author.Tests.{ltb-true, ltb-false}
 use Rattle.basis.proofs.Tests.{split}
 use Rattle.value.specs.Values.{operatorOf, isTrue}
 use Rattle.value.specs.declared.Value.{Value}
-use Rattle.sheet.specs.Nodes.{In, kindAt, placeAt, kinds, heldIn, WellFormed}
-use Rattle.sheet.specs.declared.nodes.Held.the-variants.{Expression, Command}
+use Rattle.nodes.specs.Nodes.{In, kindAt, slotAt, kinds, heldIn}
+use Rattle.nodes.specs.Inside.Formed.{WellFormed}
+use Rattle.nodes.specs.declared.Held.the-variants.{Expression, Command}
 use Rattle.sheet.specs.Trees.{Exp, constant, field, operator, not, seal, Cmd, skip, assign, sequence, ifElse, while}
 use Rattle.sheet.specs.Trees.{lower, expNode, expBelow, expAt, cmdAt}
 use Rattle.sheet.proofs.Trees.{held-there, cmdAt-skip, cmdAt-assign, cmdAt-sequence, cmdAt-if, cmdAt-while}
-use Rattle.rules.specs.Rules.{Why, Try, fine, fails, Marking, Cell, cell, Store, Result, gives, stops, End, done, spent, stopped}
-use Rattle.rules.specs.Rules.{at, andThen, with, choose, spend, bind, computed, operated, eval, updated, branch, tested, rounds, exec}
+use Rattle.rules.specs.Ends.{Why, Try, fine, fails, Result, gives, stops, End, done, spent, stopped, at, andThen, with, choose, spend, bind}
+use Rattle.rules.specs.Rules.{Marking, computed, operated, eval, updated, branch, tested, rounds, execBy, exec}
+use Rattle.store.specs.Cells.{Cell, cell, Store}
 
 -- ── trees whose places are at most n ────────────────────────────────────────────────────────
 
@@ -43,9 +45,9 @@ module _ (constants s : List ℕ) (n : ℕ) where
   exp-node-upto child below m kind h =
       split (eqb kind 0) (λ e. rw (e, expNode) a-constant)
       (λ e. split (eqb kind 1) (λ f. rw (e, f, expNode) a-field)
-      (λ f. split (eqb kind 2) (λ g. rw (e, f, g, expNode) (an-operator h (below (placeAt s m 0)) (below (placeAt s m 1))))
-      (λ g. split (eqb kind 3) (λ i. rw (e, f, g, i, expNode) (a-not (below (placeAt s m 0))))
-      (λ i. rw (e, f, g, i, expNode) (a-seal (below (placeAt s m 0)))))))
+      (λ f. split (eqb kind 2) (λ g. rw (e, f, g, expNode) (an-operator h (below (slotAt s m 0)) (below (slotAt s m 1))))
+      (λ g. split (eqb kind 3) (λ i. rw (e, f, g, i, expNode) (a-not (below (slotAt s m 0))))
+      (λ i. rw (e, f, g, i, expNode) (a-seal (below (slotAt s m 0)))))))
 
   exp-below-upto : (d m : ℕ) → m ≤ n → ExpUpTo n (expBelow constants s d m)
   unfolding expBelow
@@ -67,11 +69,11 @@ by-kind k least most is-5 is-6 is-7 is-8 is-9 =
 module _ (values : List ℕ) {s : List ℕ} {fields constants : ℕ} (nodes : WellFormed s fields constants) (n : ℕ) where
   -- a command, where its children are such
   module _ (m : ℕ) (h : m ≤ n) (i : In s m) (below : (w : ℕ) → w < m → 5 ≤ kindAt s w → CmdUpTo n (cmdAt values s w)) where
-    exp-child : (kind k : ℕ) → kindAt s m ≡ kind → k < 3 → heldIn kind k ≡ Expression → ExpUpTo n (expAt values s (placeAt s m k))
-    exp-child kind k e l held = exp-upto values s n (placeAt s m k) (omega (arith, (rw held at (held-there nodes m i kind k e l)) .lower))
+    exp-child : (kind k : ℕ) → kindAt s m ≡ kind → k < 3 → heldIn kind k ≡ Expression → ExpUpTo n (expAt values s (slotAt s m k))
+    exp-child kind k e l held = exp-upto values s n (slotAt s m k) (omega (arith, (rw held at (held-there nodes m i kind k e l)) .lower))
 
-    cmd-child : (kind k : ℕ) → kindAt s m ≡ kind → k < 3 → heldIn kind k ≡ Command → CmdUpTo n (cmdAt values s (placeAt s m k))
-    cmd-child kind k e l held = let child = rw held at (held-there nodes m i kind k e l) in below (placeAt s m k) (child .lower) (child .least)
+    cmd-child : (kind k : ℕ) → kindAt s m ≡ kind → k < 3 → heldIn kind k ≡ Command → CmdUpTo n (cmdAt values s (slotAt s m k))
+    cmd-child kind k e l held = let child = rw held at (held-there nodes m i kind k e l) in below (slotAt s m k) (child .lower) (child .least)
 
     cmd-node-upto : 5 ≤ kindAt s m → CmdUpTo n (cmdAt values s m)
     unfolding heldIn kinds
@@ -172,7 +174,7 @@ module _ {Mark Seen Context : Type 0} (𝓜 : Marking Mark Seen Context) {n : �
 
   -- a run stops at a place of its command
   pub exec-upto : {c : Cmd} → CmdUpTo n c → (context : Context) (σ : Store Mark) (fuel : ℕ) → EndUpTo n (exec 𝓜 c context σ fuel)
-  unfolding exec
+  unfolding execBy
   exec-upto (a-skip p) context σ fuel = spend-upto p fuel (λ left. upto-done)
   exec-upto (an-assign {place} {i} p b) context σ fuel =
       spend-upto p fuel (λ left. with-upto (eval-upto b σ) left (λ x. with-upto (updated-upto p context (σ i) x) left (λ k. upto-done)))

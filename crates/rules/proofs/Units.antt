@@ -6,8 +6,9 @@ use mathlib.Core.Path.{_≡_, refl, sym, ap, fun-ext}
 use mathlib.Core.Bool.{Bool, true, false}
 use Rattle.value.specs.Values.{isTrue}
 use Rattle.sheet.specs.Trees.{Exp, Cmd, skip, assign, sequence, ifElse, while}
-use Rattle.rules.specs.Rules.{Why, Marking, Cell, cell, Store, put, Result, gives, stops, End, done, spent, stopped}
-use Rattle.rules.specs.Rules.{at, with, choose, spend, bind, eval, updated, branch, tested, rounds, exec}
+use Rattle.rules.specs.Ends.{Why, Result, gives, stops, End, done, spent, stopped, at, with, choose, spend, bind}
+use Rattle.rules.specs.Rules.{Marking, put, eval, updated, branch, tested, rounds, execBy, exec}
+use Rattle.store.specs.Cells.{Cell, cell, Store}
 
 -- an end leaves at most this fuel
 pub data Left {Mark : Type 0} (fuel : ℕ) : End Mark → Type 0 where
@@ -108,7 +109,7 @@ module _ {Mark Seen Context : Type 0} (𝓜 : Marking Mark Seen Context) where
 
   -- a run leaves at most the fuel that it was given
   pub exec-left : (c : Cmd) (context : Context) (σ : Store Mark) (fuel : ℕ) → Left fuel (exec 𝓜 c context σ fuel)
-  unfolding exec
+  unfolding execBy
   exec-left (skip place) context σ fuel = spend-left place fuel (λ left. left-done (le-refl left))
   exec-left (assign place i b) context σ fuel =
       spend-left place fuel (λ left. with-left (eval 𝓜 b σ) left (λ x. with-left (updated 𝓜 place context (σ i) x) left (λ k. left-done (le-refl left))))
@@ -126,29 +127,29 @@ module _ {Mark Seen Context : Type 0} (𝓜 : Marking Mark Seen Context) where
   -- ── what each command runs as ─────────────────────────────────────────────────────────────
 
   pub skip-law : (place : ℕ) (context : Context) (σ : Store Mark) (fuel : ℕ) → exec 𝓜 (skip place) context σ fuel ≡ spend place fuel (λ left. done σ left)
-  unfolding exec
+  unfolding execBy
   skip-law place context σ fuel = refl
 
   pub assign-law : (place i : ℕ) (b : Exp) (context : Context) (σ : Store Mark) (fuel : ℕ)
       → exec 𝓜 (assign place i b) context σ fuel
       ≡ spend place fuel (λ left. with (eval 𝓜 b σ) left (λ x. with (updated 𝓜 place context (σ i) x) left (λ k. done (put i k σ) left)))
-  unfolding exec
+  unfolding execBy
   assign-law place i b context σ fuel = refl
 
   pub sequence-law : (a b : Cmd) (context : Context) (σ : Store Mark) (fuel : ℕ)
       → exec 𝓜 (sequence a b) context σ fuel ≡ bind (exec 𝓜 a context σ fuel) (exec 𝓜 b context)
-  unfolding exec
+  unfolding execBy
   sequence-law a b context σ fuel = refl
 
   pub if-law : (place : ℕ) (a : Exp) (b c : Cmd) (context : Context) (σ : Store Mark) (fuel : ℕ)
       → exec 𝓜 (ifElse place a b c) context σ fuel ≡ tested 𝓜 place a context σ fuel (λ k left. exec 𝓜 b k σ left) (λ k left. exec 𝓜 c k σ left)
-  unfolding exec
+  unfolding execBy
   if-law place a b c context σ fuel = refl
 
   pub while-law : (place : ℕ) (a : Exp) (b : Cmd) (context : Context) (σ : Store Mark) (fuel : ℕ)
       → exec 𝓜 (while place a b) context σ fuel
       ≡ tested 𝓜 place a context σ fuel (λ c left. bind (exec 𝓜 b c σ left) (exec 𝓜 (while place a b) c)) (λ c left. done σ left)
-  unfolding exec rounds tested spend
+  unfolding execBy rounds tested spend
   while-law place a b context σ zero = refl
   while-law place a b context σ (suc fuel) =
       onward-same place a context σ fuel (λ c. bind-same (exec-left b c σ fuel)

@@ -9,9 +9,11 @@ use mathlib.Core.Bool.{Bool, true, false}
 use Rattle.value.specs.Values.{isTrue}
 use Rattle.sheet.specs.Trees.{Exp, constant, field, operator, not, seal, Cmd, skip, assign, sequence, ifElse, while}
 use Rattle.levels.specs.Lattice.{Lattice}
-use Rattle.rules.specs.Rules.{Why, Try, fine, fails, Marking, Cell, cell, Store, put, Result, gives, stops, End, done, spent, stopped}
-use Rattle.rules.specs.Rules.{at, andThen, with, choose, spend, bind, reading, operated, inverted, sealing, eval, updated, branch, tested, rounds, exec}
-use Rattle.rules.specs.Marks.{Mark, strict, permissive, levelOf, stored, marking}
+use Rattle.rules.specs.Ends.{Why, Try, fine, fails, Result, gives, stops, End, done, spent, stopped, at, andThen, with, choose, spend, bind}
+use Rattle.rules.specs.Rules.{Marking, put, reading, operated, inverted, sealing, eval, updated, branch, tested, rounds, execBy, exec}
+use Rattle.store.specs.Cells.{Cell, cell, Store}
+use Rattle.store.specs.Marks.{Mark, strict, permissive, levelOf}
+use Rattle.rules.specs.LevelMarks.{stored, marking}
 
 -- the second goes on wherever the first does
 pub data GoesOn {A : Type 0} : Try A → Try A → Type 0 where
@@ -135,7 +137,7 @@ module _ {Mark Seen Context : Type 0} {𝓜 𝓝 : Marking Mark Seen Context} (�
       tested-follows place a context σ (λ c f g d. bind-follows (h _ σ f g d) (rounds-follows place a b b′ h m n (omega arith) c)) (λ c f g d. done-too d) f g d
 
   exec-follows : (c : Cmd) (context : Context) (σ : Store Mark) → FollowsOn (exec 𝓜 c context σ) (exec 𝓝 c context σ)
-  unfolding exec
+  unfolding execBy
   exec-follows (skip place) context σ f g d = spend-follows place (λ f g d. done-too d) f g d
   exec-follows (assign place i b) context σ f g d =
       spend-follows place (λ f g d. rw (← eval-same b σ) (with-follows (eval 𝓜 b σ) f g (λ x. updated-follows place i context σ (σ i) x f g d))) f g d

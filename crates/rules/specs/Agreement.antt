@@ -7,9 +7,9 @@ use mathlib.Core.Logic.{_⊎_}
 use Rattle.basis.specs.Bytes.{wordAt}
 use Rattle.value.specs.declared.Value.{Value}
 use Rattle.levels.specs.Lattice.{Lattice}
-use Rattle.rules.specs.Rules.{Cell, cell}
-use Rattle.rules.specs.Marks.{Mark, whole, partial}
-use Rattle.rules.specs.Stores.{storeOf}
+use Rattle.store.specs.Cells.{Cell, cell}
+use Rattle.store.specs.Marks.{Mark, whole, partial}
+use Rattle.store.specs.Stores.{storeOf}
 
 module _ (𝓛 : Lattice) (R : ℕ) where
   -- for each field one of:

@@ -3,10 +3,13 @@
 -- `proofs/Dropped.antt` proves it. What document 01 rules out is a later round that runs in the old context alone.
 use Prim.Native.Nat.{ℕ, zero, suc}
 use mathlib.Core.Path.{_≡_}
-use Rattle.sheet.specs.Trees.{Exp, Cmd, skip, assign, sequence, ifElse, while}
+use Rattle.sheet.specs.Trees.{Exp, Cmd}
 use Rattle.levels.specs.Lattice.{Lattice, Laws}
-use Rattle.rules.specs.Rules.{Marking, Store, End, done, spent, bind, tested, exec}
-use Rattle.rules.specs.Marks.{Mode, marking}
+use Rattle.rules.specs.Rules.{Marking, tested, execBy, exec}
+use Rattle.store.specs.Cells.{Store}
+use Rattle.rules.specs.Ends.{End, done, spent, bind}
+use Rattle.store.specs.Marks.{Mode}
+use Rattle.rules.specs.LevelMarks.{marking}
 
 module _ {Mark Seen Context : Type 0} (𝓜 : Marking Mark Seen Context) where
   -- as `rounds`, but the next round starts from the old context
@@ -16,12 +19,8 @@ module _ {Mark Seen Context : Type 0} (𝓜 : Marking Mark Seen Context) where
       tested 𝓜 place a context σ fuel (λ c left. bind (body c σ left) (dropping place a body bound context)) (λ c left. done σ left)
 
   -- as `exec`, with every while so
-  unfoldable pub execDropping : Cmd → Context → Store Mark → ℕ → End Mark
-  execDropping (skip place) context σ fuel = exec 𝓜 (skip place) context σ fuel
-  execDropping (assign place i b) context σ fuel = exec 𝓜 (assign place i b) context σ fuel
-  execDropping (sequence a b) context σ fuel = bind (execDropping a context σ fuel) (execDropping b context)
-  execDropping (ifElse place a b c) context σ fuel = tested 𝓜 place a context σ fuel (λ k left. execDropping b k σ left) (λ k left. execDropping c k σ left)
-  execDropping (while place a b) context σ fuel = dropping place a (execDropping b) fuel context σ fuel
+  abbrev pub execDropping : Cmd → Context → Store Mark → ℕ → End Mark
+  execDropping = execBy 𝓜 (λ place a body context σ fuel. dropping place a body fuel context σ fuel)
 
 abbrev pub DroppingSame : Type 0
 DroppingSame = (𝓛 : Lattice) → Laws 𝓛 → (mode : Mode) (c : Cmd) → execDropping (marking 𝓛 mode) c ≡ exec (marking 𝓛 mode) c

@@ -10,8 +10,11 @@ use Rattle.value.specs.declared.Computed.the-variants.{Is}
 use Rattle.levels.specs.Lattice.{Lattice, Laws}
 use Rattle.sheet.specs.Trees as tree
 use Rattle.sheet.specs.Trees.{Exp, constant, field, operator, Cmd, assign, sequence, ifElse, while}
-use Rattle.rules.specs.Rules.{cell, Store, put, done, exec}
-use Rattle.rules.specs.Marks.{Mark, whole, partial, Mode, strict, permissive, levelOf, joined, marking}
+use Rattle.store.specs.Cells.{cell, Store}
+use Rattle.rules.specs.Rules.{put, exec}
+use Rattle.rules.specs.Ends.{done}
+use Rattle.store.specs.Marks.{Mark, whole, partial, Mode, strict, permissive, levelOf}
+use Rattle.rules.specs.LevelMarks.{joined, marking}
 
 module _ (𝓛 : Lattice) where
   -- ⟨e, σ⟩ ⇓ n^k

@@ -3,10 +3,13 @@
 use Prim.Native.Nat.{ℕ, zero, suc}
 use mathlib.Core.Path.{_≡_}
 use mathlib.Core.Bool.{Bool, true, false}
-use Rattle.sheet.specs.Trees.{Exp, Cmd, skip, assign, sequence, ifElse, while}
+use Rattle.sheet.specs.Trees.{Exp, Cmd}
 use Rattle.levels.specs.Lattice.{Lattice, Laws}
-use Rattle.rules.specs.Rules.{notBelow, Try, fine, fails, Marking, Store, End, done, spent, bind, tested, exec}
-use Rattle.rules.specs.Marks.{Mark, whole, partial, Mode, strict, permissive, levelOf, joined, entered, marking}
+use Rattle.rules.specs.Ends.{Try, fine, End, done, spent, bind}
+use Rattle.rules.specs.Rules.{Marking, tested, Loop, execBy, exec}
+use Rattle.store.specs.Cells.{Store}
+use Rattle.store.specs.Marks.{Mark, partial, Mode, strict, permissive}
+use Rattle.rules.specs.LevelMarks.{stored, markingBy, marking}
 use Rattle.rules.specs.Agreement.{Agree}
 
 -- what runs a command: in a context, from a store, with fuel
@@ -29,23 +32,12 @@ KeepsSecrets monitor =
 -- Keeping A instead of the meet in the permissive store.
 module _ (𝓛 : Lattice) where
   unfoldable pub storedKeeping : Mode → Bool → ℕ → ℕ → Mark → Try Mark
-  storedKeeping mode true context A m = fine (joined 𝓛 m (whole context))
-  storedKeeping strict false context A m = fails notBelow
+  storedKeeping mode true context A m = stored 𝓛 mode true context A m
+  storedKeeping strict false context A m = stored 𝓛 strict false context A m
   storedKeeping permissive false context A m = fine (partial A)
 
-  abbrev pub keepingA : Mode → Marking Mark Mark ℕ
-  keepingA mode = record {
-    constant = whole (𝓛 .bot);
-    sealed = whole (𝓛 .top);
-    start = 𝓛 .bot;
-    read = λ i m. m;
-    join = joined 𝓛;
-    enter = entered 𝓛;
-    store = λ place context old m. storedKeeping mode (𝓛 .le context (levelOf old)) context (levelOf old) m;
-  }
-
 abbrev pub aKept : Monitor
-aKept 𝓛 mode = exec (keepingA 𝓛 mode)
+aKept 𝓛 mode = exec (markingBy 𝓛 (storedKeeping 𝓛 mode))
 
 -- Dropping a loop's raised context before the next test: later rounds run in the old one.
 module _ {Mark Seen Context : Type 0} (𝓜 : Marking Mark Seen Context) where
@@ -54,16 +46,12 @@ module _ {Mark Seen Context : Type 0} (𝓜 : Marking Mark Seen Context) where
   laterRounds place a body (suc bound) context σ fuel =
       tested 𝓜 place a context σ fuel (λ c left. bind (body context σ left) (laterRounds place a body bound context)) (λ c left. done σ left)
 
-  unfoldable pub execOld : Cmd → Context → Store Mark → ℕ → End Mark
-  execOld (skip place) context σ fuel = exec 𝓜 (skip place) context σ fuel
-  execOld (assign place i b) context σ fuel = exec 𝓜 (assign place i b) context σ fuel
-  execOld (sequence a b) context σ fuel = bind (execOld a context σ fuel) (execOld b context)
-  execOld (ifElse place a b c) context σ fuel = tested 𝓜 place a context σ fuel (λ k left. execOld b k σ left) (λ k left. execOld c k σ left)
-  execOld (while place a b) context σ fuel =
-      tested 𝓜 place a context σ fuel (λ c left. bind (execOld b c σ left) (laterRounds place a (execOld b) left context)) (λ c left. done σ left)
+  abbrev pub loopingOld : Loop 𝓜
+  loopingOld place a body context σ fuel =
+      tested 𝓜 place a context σ fuel (λ c left. bind (body c σ left) (laterRounds place a body left context)) (λ c left. done σ left)
 
 abbrev pub oldContextLater : Monitor
-oldContextLater 𝓛 mode = execOld (marking 𝓛 mode)
+oldContextLater 𝓛 mode = execBy (marking 𝓛 mode) (loopingOld (marking 𝓛 mode))
 
 -- the rules keep secrets, and the pupils' monitors do not
 pub record PupilsCaught : Type 0 where

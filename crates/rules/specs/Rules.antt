@@ -1,27 +1,15 @@
 -- What a run does: document 01, "Values" and "Marks", and document 002, figures 2, 3 and 5, as a total function over trees. The marks are left
 -- open: `Marking` lists what a run asks about them, and strict and permissive mode are two lists of answers.
 use Prim.Native.Nat.{ℕ, zero, suc}
-use mathlib.Core.Bool.{Bool, true, false, cond}
+use mathlib.Core.Bool.{cond}
 use lib.Dec.{eqb}
 use Rattle.value.specs.Values.{operatorOf, notOf, isTrue}
 use Rattle.value.specs.declared.Value.{Value}
 use Rattle.value.specs.declared.Computed.{Computed}
 use Rattle.value.specs.declared.Computed.the-variants.{Is, OutOfRange, DivisorZero}
 use Rattle.sheet.specs.Trees.{Exp, constant, field, operator, not, seal, Cmd, skip, assign, sequence, ifElse, while}
-
--- why a run stops, but for its fuel
-pub data Why : Type 0 where
-  outOfRange divisorZero notBelow partialTest : Why
-
-abbrev pub numberOf : Why → ℕ
-numberOf outOfRange = 13  -- result out of range
-numberOf divisorZero = 14  -- divisor 0
-numberOf notBelow = 15  -- strict: context not at or below the field's level
-numberOf partialTest = 16  -- permissive: partial test
-
-pub data Try (A : Type 0) : Type 0 where
-  fine : A → Try A
-  fails : Why → Try A
+use Rattle.store.specs.Cells.{Cell, cell, Store}
+use Rattle.rules.specs.Ends.{outOfRange, divisorZero, Try, fine, fails, Result, gives, End, done, spent, at, andThen, with, choose, spend, bind}
 
 -- what a run asks about marks: Mark is what a field carries, Seen what an expression's result carries, Context what a command runs in
 pub record Marking (Mark Seen Context : Type 0) : Type 0 where
@@ -37,68 +25,15 @@ pub record Marking (Mark Seen Context : Type 0) : Type 0 where
   -- the mark that the assignment at this node leaves on a field with the old mark, or 15
   pub store : ℕ → Context → Mark → Seen → Try Mark
 
--- a value with its mark: a field, or an expression's result
-pub data Cell (A : Type 0) : Type 0 where
-  cell : Value → A → Cell A
-
--- a store has a cell for each field number
-abbrev pub Store : Type 0 → Type 0
-Store Mark = ℕ → Cell Mark
-
 -- field i is given a cell
 unfoldable pub put : {Mark : Type 0} → ℕ → Cell Mark → Store Mark → Store Mark
 put i c σ j = cond (eqb i j) c (σ j)
-
--- a result, or why and where the run stops
-pub data Result (A : Type 0) : Type 0 where
-  gives : A → Result A
-  stops : Why → ℕ → Result A
-
--- a run's end: the store and the fuel left; fuel used up, and where; or why, where, and the fuel left
-pub data End (Mark : Type 0) : Type 0 where
-  done : Store Mark → ℕ → End Mark
-  spent : ℕ → End Mark
-  stopped : Why → ℕ → ℕ → End Mark
-
--- ── the ways to go on ───────────────────────────────────────────────────────────────────────
-
-module _ {A : Type 0} where
-  unfoldable pub at : ℕ → Try A → Result A
-  at place (fine a) = gives a
-  at place (fails why) = stops why place
-
-  module _ {B : Type 0} where
-    -- the first stop met is the one told
-    unfoldable pub andThen : Result A → (A → Result B) → Result B
-    andThen (gives a) next = next a
-    andThen (stops why place) next = stops why place
-
-    unfoldable pub with : Result A → ℕ → (A → End B) → End B
-    with (gives a) left next = next a
-    with (stops why place) left next = stopped why place left
-
-    -- the context goes to the side that is taken
-    unfoldable pub choose : Bool → (A → End B) → (A → End B) → A → End B
-    choose true yes-side no-side context = yes-side context
-    choose false yes-side no-side context = no-side context
-
-  -- one unit is spent before anything else; with none left the run stops there
-  unfoldable pub spend : ℕ → ℕ → (ℕ → End A) → End A
-  spend place zero next = spent place
-  spend place (suc left) next = next left
-
-  unfoldable pub bind : End A → (Store A → ℕ → End A) → End A
-  bind (done σ left) next = next σ left
-  bind (spent place) next = spent place
-  bind (stopped why place left) next = stopped why place left
 
 -- an operator's result, or why there is none
 unfoldable pub computed : Computed → Try Value
 computed (Is v) = fine v
 computed (OutOfRange z) = fails outOfRange
 computed DivisorZero = fails divisorZero
-
--- ── the rules ───────────────────────────────────────────────────────────────────────────────
 
 module _ {Mark Seen Context : Type 0} (𝓜 : Marking Mark Seen Context) where
   unfoldable pub reading : ℕ → Cell Mark → Cell Seen
@@ -141,15 +76,27 @@ module _ {Mark Seen Context : Type 0} (𝓜 : Marking Mark Seen Context) where
   rounds place a body (suc bound) context σ fuel =
       tested place a context σ fuel (λ c left. bind (body c σ left) (rounds place a body bound c)) (λ c left. done σ left)
 
-  unfoldable pub exec : Cmd → Context → Store Mark → ℕ → End Mark
-  exec (skip place) context σ fuel = spend place fuel (λ left. done σ left)
-  exec (assign place i b) context σ fuel =
+  -- how a while goes on, by its place, its test and its body
+  abbrev pub Loop : Type 0
+  Loop = ℕ → Exp → (Context → Store Mark → ℕ → End Mark) → Context → Store Mark → ℕ → End Mark
+
+  -- a command, by how a while goes on
+  unfoldable pub execBy : Loop → Cmd → Context → Store Mark → ℕ → End Mark
+  execBy loop (skip place) context σ fuel = spend place fuel (λ left. done σ left)
+  execBy loop (assign place i b) context σ fuel =
       spend place fuel (λ left. with (eval b σ) left (λ x. with (updated place context (σ i) x) left (λ k. done (put i k σ) left)))
-  exec (sequence a b) context σ fuel = bind (exec a context σ fuel) (exec b context)
-  exec (ifElse place a b c) context σ fuel = tested place a context σ fuel (λ k left. exec b k σ left) (λ k left. exec c k σ left)
-  exec (while place a b) context σ fuel = rounds place a (exec b) fuel context σ fuel
+  execBy loop (sequence a b) context σ fuel = bind (execBy loop a context σ fuel) (execBy loop b context)
+  execBy loop (ifElse place a b c) context σ fuel = tested place a context σ fuel (λ k left. execBy loop b k σ left) (λ k left. execBy loop c k σ left)
+  execBy loop (while place a b) context σ fuel = loop place a (execBy loop b) context σ fuel
+
+  -- a while goes on by its rounds, which the fuel bounds
+  abbrev pub looping : Loop
+  looping place a body context σ fuel = rounds place a body fuel context σ fuel
+
+  abbrev pub exec : Cmd → Context → Store Mark → ℕ → End Mark
+  exec = execBy looping
 
 -- one name that opens the rules, so that worked runs compute
 unfoldable pub running : Unit {0}
-unfolding put at andThen with choose spend bind computed reading operated inverted sealing eval updated branch tested rounds exec
+unfolding put at andThen with choose spend bind computed reading operated inverted sealing eval updated branch tested rounds execBy
 running = tt

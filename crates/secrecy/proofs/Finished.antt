@@ -1,46 +1,44 @@
--- Number 0, taken apart: all checks passed, the rules' run is done, and what was written is its final store. And what passes and is done in strict
+-- Number 0, taken apart: all checks hold, the rules' run is done, and what was written is its final store. And what passes and is done in strict
 -- mode passes and is done in permissive mode.
 use Prim.Native.Nat.{ℕ}
 use native.Mathlib.Omega.{arith}
 use mathlib.Core.Path.{_≡_, refl, ap, _∙_}
-use mathlib.Core.Bool.{true, _&&_}
+use mathlib.Core.Bool.{true}
 use mathlib.Core.List.{List}
-use borrow.Author.Tests.{leb-true}
 use lib.Dec.{leb}
 use lib.ListN.{length, take}
 use lib.Seq.{take-at}
-use Rattle.basis.proofs.Tests.{both, all-at, all-of}
+use Rattle.basis.specs.Answer.{Outcome}
+use Rattle.basis.specs.Checks.{allHold}
+use Rattle.basis.proofs.Tests.{both, and-of, all-at, all-of}
+use Rattle.basis.proofs.Checks.{goes-on, past-checks}
 use Rattle.levels.specs.Levels.{count}
 use Rattle.levels.specs.Lattice.{lattice}
-use Rattle.sheet.specs.Verdict.{numberOf, placeOf, passesOf}
-use Rattle.sheet.specs.Sections.{levelsOf}
+use Rattle.sections.specs.Verdict.{passesOf}
+use Rattle.sections.specs.Sections.{levelsOf}
 use Rattle.sheet.specs.Load.{fieldCount, programOf, loadOf}
-use Rattle.sheet.proofs.Verdicts.{passes-is}
-use Rattle.sheet.proofs.Loading.{loaded}
-use Rattle.rules.specs.Rules as rules
-use Rattle.rules.specs.Rules.{Why, outOfRange, divisorZero, notBelow, partialTest, Store, End, done, spent, stopped, exec}
-use Rattle.rules.specs.Marks.{Mark, strict, permissive, modeOf, marking}
-use Rattle.rules.specs.Stores.{storeLength, storeOf, storeBytes, storeFits, markAt, markTaken, marksRight}
-use Rattle.flow.proofs.Entries.{store-length}
-use Rattle.beltuqash.specs.Calls.{Outcome, ended, runFrom, run}
-use Rattle.beltuqash.specs.Checks.{Taken}
-use Rattle.beltuqash.specs.Runs.{Given}
-use Rattle.beltuqash.proofs.Checking.{passed}
-use Rattle.beltuqash.proofs.Running.{goes-on}
+use Rattle.store.specs.Cells.{Store}
+use Rattle.store.specs.Marks.{Mark, strict, permissive, modeOf, markTaken}
+use Rattle.store.specs.Stores.{storeLength, storeOf, storeBytes, storeFits, markAt, marksRight}
+use Rattle.store.proofs.Entries.{store-length}
+use Rattle.rules.specs.Ends.{stopNumber, Why, outOfRange, divisorZero, notBelow, partialTest, End, done, spent, stopped}
+use Rattle.rules.specs.Rules.{exec}
+use Rattle.rules.specs.LevelMarks.{marking}
 use Rattle.rules.proofs.Within.{strict-permissive}
+use Rattle.beltuqash.specs.Calls.{runChecks, ended, runFrom, run}
+use Rattle.beltuqash.specs.Inside.Given.{Given}
+use Rattle.beltuqash.proofs.Checking.{run-numbered, run-holds}
 
-why-some : (why : Why) → rules.numberOf why ≡ 0 → ⊥
+why-some : (why : Why) → stopNumber why ≡ 0 → ⊥
 why-some outOfRange e = omega arith
 why-some divisorZero e = omega arith
 why-some notBelow e = omega arith
 why-some partialTest e = omega arith
 
 module _ (sheet store : List ℕ) (mode fuel : ℕ) (out : List ℕ) where
-  -- all checks, in their order
+  -- all checks hold
   pub record Passed : Type 0 where
-    pub asked : (leb mode 1 && leb fuel 1000000) ≡ true
-    pub taken : Taken sheet store (modeOf mode)
-    pub room : leb (storeLength (fieldCount sheet)) (length out) ≡ true
+    pub hold : allHold (runChecks sheet store mode fuel (length out)) ≡ true
 
   abbrev pub executed : End Mark
   executed = exec (marking (lattice (levelsOf sheet)) (modeOf mode)) (programOf sheet) (lattice (levelsOf sheet) .bot) (storeOf store) fuel
@@ -59,30 +57,21 @@ module _ (sheet store : List ℕ) (mode fuel : ℕ) (out : List ℕ) where
 
   pub finished : run sheet store mode fuel out .answer .number ≡ 0 → Finished
   unfolding run runFrom
-  finished e₀ =
-      let (asked, e₁) = passed (leb mode 1 && leb fuel 1000000) 10 0 out _ (λ e. absurd (omega arith)) e₀ in
-      let (passes, e₂) = passed (passesOf (loadOf sheet)) (numberOf (loadOf sheet)) (placeOf (loadOf sheet)) out _ (λ e. rw e) e₁ in
-      let (fits, e₃) = passed (storeFits (fieldCount sheet) store) 8 0 out _ (λ e. absurd (omega arith)) e₂ in
-      let (marks, e₄) = passed (marksRight (modeOf mode) (count (levelsOf sheet)) (fieldCount sheet) store) 9 0 out _ (λ e. absurd (omega arith)) e₃ in
-      let (room, e₅) = passed (leb (storeLength (fieldCount sheet)) (length out)) 11 0 out _ (λ e. absurd (omega arith)) e₄ in
-      number-done (record { asked = asked; taken = record { passes = passes; fits = fits; marks = marks }; room = room }) executed refl e₅
+  finished e =
+      let checks = runChecks sheet store mode fuel (length out) in
+      let (hold, is) = past-checks checks out (ended (fieldCount sheet) fuel out executed) (run-numbered sheet store mode fuel (length out)) e in
+      number-done (record { hold = hold }) executed refl (rw is at e)
 
 module _ {sheet store : List ℕ} {mode fuel : ℕ} {out : List ℕ} where
   -- what a run was given that passed the checks
-  pub given : Passed sheet store mode fuel out → Given sheet store mode out
-  given p = record {
-    loaded = loaded sheet (passes-is _ (p .taken .passes));
-    mode-known = leb-true mode 1 (both _ _ (p .asked) .0);
-    fits = p .taken .fits;
-    marks = p .taken .marks;
-    room = leb-true _ _ (p .room);
-  }
+  pub given : Passed sheet store mode fuel out → Given sheet store mode fuel (length out)
+  given passed = run-holds sheet store mode fuel (length out) (passed .hold)
 
   -- its outcome is that of a run that is done
   pub outcome-is : Passed sheet store mode fuel out → {σ : Store Mark} {left : ℕ} → executed sheet store mode fuel out ≡ done σ left
       → run sheet store mode fuel out ≡ ended (fieldCount sheet) fuel out (done σ left)
-  unfolding runFrom
-  outcome-is p e = goes-on mode fuel sheet store out (p .asked) (p .taken) (p .room) ∙ ap (ended (fieldCount sheet) fuel out) e
+  unfolding run runFrom
+  outcome-is passed e = goes-on (runChecks sheet store mode fuel (length out)) out _ (passed .hold) ∙ ap (ended (fieldCount sheet) fuel out) e
 
   -- the first bytes of the output are the final store
   pub written : (x : Finished sheet store mode fuel out)
@@ -101,12 +90,13 @@ taken-permissive levels fields store e =
 
 module _ {sheet store : List ℕ} {fuel : ℕ} {out : List ℕ} where
   pub permissive-passes : Passed sheet store 0 fuel out → Passed sheet store 1 fuel out
-  unfolding modeOf
-  permissive-passes p = record {
-    asked = p .asked;
-    taken = record { passes = p .taken .passes; fits = p .taken .fits; marks = taken-permissive _ _ store (p .taken .marks) };
-    room = p .room;
-  }
+  unfolding modeOf allHold
+  permissive-passes passed =
+      let (asked, h₁) = both (leb fuel 1000000) _ (passed .hold) in
+      let (passes, h₂) = both (passesOf (loadOf sheet)) _ h₁ in
+      let (fits, h₃) = both (storeFits (fieldCount sheet) store) _ h₂ in
+      let (marks, room) = both (marksRight strict (count (levelsOf sheet)) (fieldCount sheet) store) _ h₃ in
+      record { hold = and-of asked (and-of passes (and-of fits (and-of (taken-permissive _ _ store marks) room))) }
 
   pub permissive-ran : (x : Finished sheet store 0 fuel out) → executed sheet store 1 fuel out ≡ done (x .final) (x .left)
   unfolding modeOf

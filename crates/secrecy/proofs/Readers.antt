@@ -7,8 +7,11 @@ use mathlib.Core.Logic.{_⊎_, inl, inr}
 use Rattle.basis.proofs.Tests.{split}
 use Rattle.sheet.specs.Trees.{Cmd}
 use Rattle.levels.specs.Lattice.{Lattice, Laws}
-use Rattle.rules.specs.Rules.{Cell, Store, done, exec}
-use Rattle.rules.specs.Marks.{Mark, Mode, marking}
+use Rattle.store.specs.Cells.{Cell, Store}
+use Rattle.rules.specs.Ends.{done}
+use Rattle.rules.specs.Rules.{exec}
+use Rattle.store.specs.Marks.{Mark, Mode}
+use Rattle.rules.specs.LevelMarks.{marking}
 use Rattle.rules.specs.Agreement.{Agree, shown, hidden, both-partial, first-partial, second-partial}
 use Rattle.secrecy.specs.Secrecy.{HalfClosed, half-closed}
 use Rattle.rules.proofs.SafeMarks.{agree-refl, noninterference}

@@ -8,10 +8,10 @@ use mathlib.Core.List.{List}
 use mathlib.Core.Logic.{_⊎_, inl, inr}
 use Rattle.levels.specs.Lattice.{Laws, lattice}
 use Rattle.levels.proofs.Laws.{laws}
-use Rattle.sheet.specs.Sections.{levelsOf}
+use Rattle.sections.specs.Sections.{levelsOf}
 use Rattle.sheet.specs.Load.{fieldCount, programOf}
-use Rattle.rules.specs.Marks.{modeOf}
-use Rattle.rules.specs.Stores.{storeOf}
+use Rattle.store.specs.Marks.{modeOf}
+use Rattle.store.specs.Stores.{storeOf}
 use Rattle.beltuqash.proofs.Checking.{few-fields}
 use Rattle.secrecy.specs.Secrecy.{finalStore, BelowHighest, NoneHalfClosed, FinalStoresAgree, AnswersSame, StrictInsidePermissive}
 use Rattle.secrecy.proofs.Readers.{Whole, agreeing}
@@ -22,13 +22,13 @@ use Rattle.secrecy.proofs.Starting.{below-highest, few-levels, start-le
 
 module _ {sheet store : List ℕ} {mode fuel : ℕ} {out : List ℕ} (x : Finished sheet store mode fuel out) where
   ordered : Laws (lattice (levelsOf sheet))
-  ordered = laws (levelsOf sheet) (given (x .checks) .loaded .levels)
+  ordered = laws (levelsOf sheet) (given (x .checks) .taken .loaded .levels)
 
   final-levels : (i : ℕ) → levelIn (x .final i) < 16
   final-levels i =
       le-trans
-      (levels-stay _ ordered (modeOf mode) (programOf sheet) _ (storeOf store) (x .final) fuel (x .left) (x .ran) (start-levels (given (x .checks))) i)
-      (few-levels (levelsOf sheet) (given (x .checks) .loaded .levels))
+      (levels-stay _ ordered (modeOf mode) (programOf sheet) _ (storeOf store) (x .final) fuel (x .left) (x .ran) (start-levels (given (x .checks) .taken)) i)
+      (few-levels (levelsOf sheet) (given (x .checks) .taken .loaded .levels))
 
 pub final-stores-agree : FinalStoresAgree
 final-stores-agree sheet mode first second R two =
@@ -36,18 +36,18 @@ final-stores-agree sheet mode first second R two =
     let x = finished sheet (first .start) mode (first .fuel) (first .lent) e₁ in
     let y = finished sheet (second .start) mode (second .fuel) (second .lent) e₂ in
     let fields = fieldCount sheet in
-    let few : fields < 256 = omega (arith, few-fields sheet (given (x .checks) .loaded)) in
+    let few : fields < 256 = omega (arith, few-fields sheet (given (x .checks) .taken .loaded)) in
     rw (written x, written y)
     (written-agree (lattice (levelsOf sheet)) R fields (x .final) (y .final) few (final-levels x) (final-levels y)
     (agreeing (lattice (levelsOf sheet)) (ordered x) R (modeOf mode) (programOf sheet) (lattice (levelsOf sheet) .bot) (first .fuel) (second .fuel)
-    (storeOf (first .start)) (storeOf (second .start)) (start-agree (given (x .checks)) R (given (y .checks)) (two .agree)) (placed x y (two .stands))
+    (storeOf (first .start)) (storeOf (second .start)) (start-agree (given (x .checks) .taken) R (given (y .checks) .taken) (two .agree)) (placed x y (two .stands))
     (x .final) (y .final) (x .left) (y .left) (x .ran) (y .ran)))
   where
     placed : (x : Finished sheet (first .start) mode (first .fuel) (first .lent)) (y : Finished sheet (second .start) mode (second .fuel) (second .lent))
         → BelowHighest sheet R ⊎ (NoneHalfClosed (first .start) × NoneHalfClosed (second .start))
         → (lattice (levelsOf sheet) .le (lattice (levelsOf sheet) .top) R ≡ false) ⊎ (Whole (storeOf (first .start)) × Whole (storeOf (second .start)))
-    placed x y (inl below) = inl (below-highest (levelsOf sheet) (given (x .checks) .loaded .levels) R (two .reader) below)
-    placed x y (inr (p, q)) = inr (start-whole (given (x .checks)) p, start-whole (given (y .checks)) q)
+    placed x y (inl below) = inl (below-highest (levelsOf sheet) (given (x .checks) .taken .loaded .levels) R (two .reader) below)
+    placed x y (inr (p, q)) = inr (start-whole (given (x .checks) .taken) p, start-whole (given (y .checks) .taken) q)
 
 pub answers-same : AnswersSame
 answers-same sheet mode first second R two request lent₁ lent₂ (e₁, e₂) =

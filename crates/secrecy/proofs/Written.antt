@@ -7,10 +7,14 @@ use mathlib.Core.List.{_∷_}
 use Rattle.value.specs.Bytes.{bytesOf}
 use Rattle.sheet.specs.Trees.{Cmd}
 use Rattle.levels.specs.Lattice.{Lattice, Laws}
-use Rattle.rules.specs.Rules.{Cell, cell, Store, done, exec}
-use Rattle.rules.specs.Marks.{Mark, whole, partial, Mode, strict, permissive, levelOf, joined, entered, stored, marking}
-use Rattle.rules.specs.Stores.{cellAt, entryOf, storeBytes}
-use Rattle.flow.proofs.Entries.{mark-back, count-back, entry-back}
+use Rattle.store.specs.Cells.{Cell, cell, Store}
+use Rattle.rules.specs.Ends.{done}
+use Rattle.rules.specs.Rules.{exec}
+use Rattle.store.specs.Marks.{Mark, whole, partial, Mode, strict, permissive, levelOf}
+use Rattle.rules.specs.LevelMarks.{joined, entered, stored, marking}
+use Rattle.store.specs.Stores.{cellAt, entryOf, storeBytes}
+use Rattle.store.proofs.Marks.{mark-back}
+use Rattle.store.proofs.Entries.{count-back, entry-back}
 use Rattle.rules.specs.Agreement.{Agree, shown, hidden, both-partial, first-partial, second-partial, StoresAgree}
 use Rattle.rules.proofs.Moves.{Fine, good, bad, Moves, Later, stays, moves, ran-done, exec-ran}
 

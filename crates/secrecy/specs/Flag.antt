@@ -1,9 +1,13 @@
 -- Document 01's flag sheet, byte for byte as in examples/flag.sheet, the same with a seal in its last test, and the stores that they are run from.
 --   flag := 0; q := 0; if cost < 500 then flag := 1 else skip; if flag = 0 then q := 1 else skip
-use Prim.Native.Nat.{ℕ, _/_, _%_}
+use Prim.Native.Nat.{ℕ}
 use mathlib.Core.List.{List, [], _∷_, _++_}
+use lib.IntN.{pos}
+use Rattle.store.specs.Cells.{cell}
+use Rattle.store.specs.Marks.{Mark, whole}
+use Rattle.store.specs.Stores.{entryOf}
 
--- a node whose places are all below 256: kind, operator, a, b, c
+-- a node whose slots are all below 256: kind, operator, a, b, c
 abbrev node : ℕ → ℕ → ℕ → ℕ → ℕ → List ℕ
 node kind op a b c = kind ∷ op ∷ a ∷ 0 ∷ b ∷ 0 ∷ c ∷ 0 ∷ []
 
@@ -68,10 +72,10 @@ sealedSheet =
     ++ node 7 0 3 19 0  -- 20: node 3, then node 19
     ++ node 7 0 1 20 0  -- 21: node 1, then node 20
 
+-- a field of a store, by its mark and value
+abbrev pub entry : Mark → ℕ → List ℕ
+entry m n = entryOf (cell (record { n = pos n }) m)
+
 -- Cost at level 1, others 0; all are whole, and flag and q hold 0.
 unfoldable pub storeAt : ℕ → List ℕ
-storeAt cost =
-    (3 ∷ 0 ∷ [])
-    ++ (0 ∷ 0 ∷ 0 ∷ 0 ∷ 0 ∷ [])
-    ++ (0 ∷ 0 ∷ 0 ∷ 0 ∷ 0 ∷ [])
-    ++ (1 ∷ cost % 256 ∷ cost / 256 ∷ 0 ∷ 0 ∷ [])
+storeAt cost = (3 ∷ 0 ∷ []) ++ entry (whole 0) 0 ++ entry (whole 0) 0 ++ entry (whole 1) cost

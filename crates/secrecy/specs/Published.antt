@@ -3,11 +3,11 @@ use Prim.Native.Nat.{ℕ}
 use mathlib.Core.Path.{_≡_}
 use mathlib.Core.List.{List}
 use Rattle.levels.specs.Lattice.{lattice}
-use Rattle.sheet.specs.Sections.{levelsOf}
+use Rattle.sections.specs.Sections.{levelsOf}
 use Rattle.sheet.specs.Load.{fieldCount, programOf}
-use Rattle.rules.specs.Rules.{Store}
-use Rattle.rules.specs.Marks.{Mark, modeOf}
-use Rattle.rules.specs.Stores.{storeOf, storeBytes}
+use Rattle.store.specs.Cells.{Store}
+use Rattle.store.specs.Marks.{Mark, modeOf}
+use Rattle.store.specs.Stores.{storeOf, storeBytes}
 use Rattle.rules.specs.Published.{Executes}
 use Rattle.secrecy.specs.Secrecy.{Call, Finishes, finalStore}
 

@@ -9,14 +9,15 @@ use Rattle.basis.specs.Bytes.{wordAt}
 use Rattle.value.specs.declared.Value.{Value}
 use Rattle.levels.specs.Levels.{count, highestOf}
 use Rattle.levels.specs.Lattice.{lattice}
-use Rattle.sheet.specs.Sections.{levelsOf}
+use Rattle.sections.specs.Sections.{levelsOf}
 use Rattle.sheet.specs.Load.{fieldCount}
-use Rattle.rules.specs.Rules.{Cell, cell}
-use Rattle.rules.specs.Marks.{Mark, partial}
-use Rattle.rules.specs.Stores.{storeOf, storeLength}
+use Rattle.store.specs.Cells.{Cell, cell}
+use Rattle.store.specs.Marks.{Mark, partial}
+use Rattle.store.specs.Stores.{storeOf, storeLength}
 use Rattle.rules.specs.Agreement.{StoresAgree}
 use Rattle.handout.specs.Answers.{answerLength}
-use Rattle.beltuqash.specs.Calls.{Outcome, run, handOut}
+use Rattle.basis.specs.Answer.{Outcome}
+use Rattle.beltuqash.specs.Calls.{run, handOut}
 
 -- a call of run, but for the sheet and the mode
 pub record Call : Type 0 where

@@ -7,11 +7,13 @@ use mathlib.Core.List.{List}
 use borrow.Author.Tests.{le-leb, lt-leb, leb-true, leb-false}
 use lib.Dec.{leb}
 use Rattle.basis.proofs.Tests.{split}
-use Rattle.sheet.specs.Nodes.{In, kindAt, placeAt, kinds, heldIn, isChild, Holds, WellFormed}
+use Rattle.nodes.specs.Nodes.{In, kindAt, slotAt, kinds, heldIn, isChild}
+use Rattle.nodes.specs.Inside.Formed.{Holds, WellFormed}
 use Rattle.sheet.specs.Trees.{expAt, cmdAt}
-use Rattle.sheet.specs.Depth.{expDepth, cmdDepth, depthAt, depthIn, NodeIn}
-use Rattle.sheet.specs.declared.nodes.Held.{Held}
-use Rattle.sheet.specs.declared.nodes.Held.the-variants.{Nothing, Constant, Field, Expression, Command}
+use Rattle.sheet.specs.Depth.{expDepth, cmdDepth}
+use Rattle.sheet.specs.Inside.Depth.{depthAt, depthIn, NodeIn}
+use Rattle.nodes.specs.declared.Held.{Held}
+use Rattle.nodes.specs.declared.Held.the-variants.{Nothing, Constant, Field, Expression, Command}
 use Rattle.sheet.proofs.Trees.{held-there, expAt-constant, expAt-field, expAt-operator, expAt-not, expAt-seal, cmdAt-skip, cmdAt-assign, cmdAt-sequence, cmdAt-if, cmdAt-while}
 
 -- the kinds, one by one
@@ -54,19 +56,19 @@ module _ (values s : List ℕ) where
   unfolding depthIn
   no-child n k e = rw e
 
-  pub a-child : (n k : ℕ) → isChild (heldIn (kindAt s n) k) ≡ true → depthIn values s n k ≡ depthAt values s (placeAt s n k)
+  pub a-child : (n k : ℕ) → isChild (heldIn (kindAt s n) k) ≡ true → depthIn values s n k ≡ depthAt values s (slotAt s n k)
   unfolding depthIn
   a-child n k e = rw e
 
   module _ {fields constants : ℕ} (nodes : WellFormed s fields constants) (n : ℕ) (i : In s n) where
-    -- the depth in place k of a node of a kind, which holds no child, an expression or a command
+    -- the depth in slot k of a node of a kind, which holds no child, an expression or a command
     none-in : (kind k : ℕ) → kindAt s n ≡ kind → isChild (heldIn kind k) ≡ false → depthIn values s n k ≡ 0
     none-in kind k e h = no-child n k (rw e h)
 
-    exp-in : (kind k : ℕ) → kindAt s n ≡ kind → k < 3 → heldIn kind k ≡ Expression → depthIn values s n k ≡ expDepth (expAt values s (placeAt s n k))
+    exp-in : (kind k : ℕ) → kindAt s n ≡ kind → k < 3 → heldIn kind k ≡ Expression → depthIn values s n k ≡ expDepth (expAt values s (slotAt s n k))
     exp-in kind k e h held = a-child n k (rw e (ap isChild held)) ∙ exp-depth _ ((rw held at (held-there nodes n i kind k e h)) .sort)
 
-    cmd-in : (kind k : ℕ) → kindAt s n ≡ kind → k < 3 → heldIn kind k ≡ Command → depthIn values s n k ≡ cmdDepth (cmdAt values s (placeAt s n k))
+    cmd-in : (kind k : ℕ) → kindAt s n ≡ kind → k < 3 → heldIn kind k ≡ Command → depthIn values s n k ≡ cmdDepth (cmdAt values s (slotAt s n k))
     cmd-in kind k e h held = a-child n k (rw e (ap isChild held)) ∙ cmd-depth _ ((rw held at (held-there nodes n i kind k e h)) .least)
 
     abbrev deepest : ℕ
@@ -118,13 +120,13 @@ module _ (values s : List ℕ) where
           (λ e. e ∙ sym (too-deep 1 (omega arith) e))
 
 -- a child is a node with a lower number
-pub child-node : {s : List ℕ} {n : ℕ} → NodeIn s n → (k : ℕ) → k < 3 → isChild (heldIn (kindAt s n) k) ≡ true → (placeAt s n k < n) × NodeIn s (placeAt s n k)
-child-node {s} {n} node k h child = go (heldIn (kindAt s n) k) child (node .formed .nodes .places n k (node .inside) h)
+pub child-node : {s : List ℕ} {n : ℕ} → NodeIn s n → (k : ℕ) → k < 3 → isChild (heldIn (kindAt s n) k) ≡ true → (slotAt s n k < n) × NodeIn s (slotAt s n k)
+child-node {s} {n} node k h child = go (heldIn (kindAt s n) k) child (node .formed .nodes .slots n k (node .inside) h)
   where
-    below : placeAt s n k < n → (placeAt s n k < n) × NodeIn s (placeAt s n k)
+    below : slotAt s n k < n → (slotAt s n k < n) × NodeIn s (slotAt s n k)
     below l = let inside = node .inside in (l, record { formed = node .formed; inside = omega arith })
 
-    go : (held : Held) → isChild held ≡ true → Holds s (node .formed .fields) (node .formed .constants) n held (placeAt s n k) → (placeAt s n k < n) × NodeIn s (placeAt s n k)
+    go : (held : Held) → isChild held ≡ true → Holds s (node .formed .fields) (node .formed .constants) n held (slotAt s n k) → (slotAt s n k < n) × NodeIn s (slotAt s n k)
     go Nothing e holds = absurd (false≢true e)
     go Constant e holds = absurd (false≢true e)
     go Field e holds = absurd (false≢true e)

@@ -1,5 +1,5 @@
 -- Load, check by check: what is told, and what a sheet has that passes.
-use Prim.Native.Nat.{ℕ, _-_, _≤_, _<_}
+use Prim.Native.Nat.{ℕ, _≤_, _<_}
 use native.Mathlib.Omega.{arith}
 use mathlib.Core.Path.{_≡_, refl, sym}
 use mathlib.Core.Bool.{true, false, _&&_}
@@ -9,17 +9,19 @@ use lib.Dec.{leb, ltb, eqb}
 use lib.ListN.{length, drop}
 use Rattle.basis.proofs.Tests.{both, all-at}
 use Rattle.levels.specs.Levels.{right}
-use Rattle.sheet.specs.Verdict.{passesOf, _then_}
-use Rattle.sheet.specs.Sections.{nodesAt, levelsOf, fieldsOf, nodesOf, sectionsVerdict}
-use Rattle.sheet.specs.Names.{namesRight}
-use Rattle.sheet.specs.Nodes.{nodeCount, kindAt, nodesVerdict, Formed}
-use Rattle.sheet.specs.Uses.{usesBelow, usedOnce}
+use Rattle.sections.specs.Verdict.{passesOf, _then_}
+use Rattle.sections.specs.Sections.{nodesAt, levelsOf, fieldsOf, nodesOf, sectionsVerdict}
+use Rattle.names.specs.Names.{namesRight}
+use Rattle.nodes.specs.Nodes.{nodeCount, kindAt, nodesVerdict}
+use Rattle.nodes.specs.Inside.Formed.{Formed}
+use Rattle.nodes.specs.Uses.{usesBelow, usedOnce}
 use Rattle.sheet.specs.Depth.{cmdDepth}
-use Rattle.sheet.specs.Load.{fieldCount, constantCount, lastOf, programOf, loadOf, Loaded}
-use Rattle.sheet.specs.declared.verdict.Verdict.the-variants.{Passes, Levels, Name, Uses, Depth}
-use Rattle.sheet.proofs.Verdicts.{then-first, both-pass, told-right, Placed, told-placed, then-placed}
-use Rattle.sheet.proofs.Parts.{entries-length, sections-pass, sections-placed}
-use Rattle.sheet.proofs.Judged.{nodes-placed, well-formed}
+use Rattle.sheet.specs.Load.{fieldCount, constantCount, lastOf, programOf, loadOf}
+use Rattle.sheet.specs.Inside.Loaded.{Loaded}
+use Rattle.sections.specs.declared.verdict.Verdict.the-variants.{Passes, Levels, Name, Uses, Depth}
+use Rattle.sections.proofs.Verdicts.{then-first, both-pass, told-right, Placed, told-placed, then-placed}
+use Rattle.sections.proofs.Parts.{entries-length, sections-pass, sections-placed}
+use Rattle.nodes.proofs.Judged.{nodes-placed, well-formed}
 
 module _ (sheet : List ℕ) where
   pub layout-told : passesOf (sectionsVerdict sheet) ≡ false → sectionsVerdict sheet ≡ loadOf sheet

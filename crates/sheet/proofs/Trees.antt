@@ -6,8 +6,9 @@ use mathlib.Core.Bool.{Bool, true, false, cond}
 use mathlib.Core.List.{List}
 use lib.Dec.{ltb}
 use borrow.Author.Tests.{ltb-true, lt-ltb}
-use Rattle.sheet.specs.Nodes.{In, kindAt, opAt, placeAt, kinds, heldIn, Holds, WellFormed}
-use Rattle.sheet.specs.declared.nodes.Held.the-variants.{Expression, Command}
+use Rattle.nodes.specs.Nodes.{In, kindAt, opAt, slotAt, kinds, heldIn}
+use Rattle.nodes.specs.Inside.Formed.{Holds, WellFormed}
+use Rattle.nodes.specs.declared.Held.the-variants.{Expression, Command}
 use Rattle.sheet.specs.Trees.{Exp, constant, field, operator, not, seal, Cmd, skip, assign, sequence, ifElse, while}
 use Rattle.sheet.specs.Trees.{lower, constantAt, zeroValue, expNode, expBelow, expAt, cmdNode, cmdBelow, cmdAt}
 
@@ -57,35 +58,35 @@ module _ (constants s : List ℕ) where
 
 -- what place k of a node of this kind holds is there
 pub held-there : {s : List ℕ} {fields constants : ℕ} → WellFormed s fields constants → (n : ℕ) → In s n → (kind k : ℕ) → kindAt s n ≡ kind → k < 3
-    → Holds s fields constants n (heldIn kind k) (placeAt s n k)
-held-there {s} {fields} {constants} nodes n i kind k e h = rw e at (nodes .places n k i h)
+    → Holds s fields constants n (heldIn kind k) (slotAt s n k)
+held-there {s} {fields} {constants} nodes n i kind k e h = rw e at (nodes .slots n k i h)
 
 -- one law a kind
 module _ (values : List ℕ) {s : List ℕ} {fields constants : ℕ} (nodes : WellFormed s fields constants) (n : ℕ) (i : In s n) where
   -- a child that is an expression, and one that is a command
-  exp-child : (kind k : ℕ) → kindAt s n ≡ kind → k < 3 → heldIn kind k ≡ Expression → lower n (expAt values s) zeroValue (placeAt s n k) ≡ expAt values s (placeAt s n k)
+  exp-child : (kind k : ℕ) → kindAt s n ≡ kind → k < 3 → heldIn kind k ≡ Expression → lower n (expAt values s) zeroValue (slotAt s n k) ≡ expAt values s (slotAt s n k)
   exp-child kind k e h held = lower-is _ _ n _ ((rw held at (held-there nodes n i kind k e h)) .lower)
 
-  cmd-child : (kind k : ℕ) → kindAt s n ≡ kind → k < 3 → heldIn kind k ≡ Command → lower n (cmdAt values s) (skip 0) (placeAt s n k) ≡ cmdAt values s (placeAt s n k)
+  cmd-child : (kind k : ℕ) → kindAt s n ≡ kind → k < 3 → heldIn kind k ≡ Command → lower n (cmdAt values s) (skip 0) (slotAt s n k) ≡ cmdAt values s (slotAt s n k)
   cmd-child kind k e h held = lower-is _ _ n _ ((rw held at (held-there nodes n i kind k e h)) .lower)
 
-  pub expAt-constant : kindAt s n ≡ 0 → expAt values s n ≡ constant (constantAt values (placeAt s n 0))
+  pub expAt-constant : kindAt s n ≡ 0 → expAt values s n ≡ constant (constantAt values (slotAt s n 0))
   unfolding expNode
   expAt-constant h = exp-node values s n ∙ rw h
 
-  pub expAt-field : kindAt s n ≡ 1 → expAt values s n ≡ field (placeAt s n 0)
+  pub expAt-field : kindAt s n ≡ 1 → expAt values s n ≡ field (slotAt s n 0)
   unfolding expNode
   expAt-field h = exp-node values s n ∙ rw h
 
-  pub expAt-operator : kindAt s n ≡ 2 → expAt values s n ≡ operator n (opAt s n) (expAt values s (placeAt s n 0)) (expAt values s (placeAt s n 1))
+  pub expAt-operator : kindAt s n ≡ 2 → expAt values s n ≡ operator n (opAt s n) (expAt values s (slotAt s n 0)) (expAt values s (slotAt s n 1))
   unfolding expNode heldIn kinds
   expAt-operator h = exp-node values s n ∙ rw (h, exp-child 2 0 h (omega arith) refl, exp-child 2 1 h (omega arith) refl)
 
-  pub expAt-not : kindAt s n ≡ 3 → expAt values s n ≡ not (expAt values s (placeAt s n 0))
+  pub expAt-not : kindAt s n ≡ 3 → expAt values s n ≡ not (expAt values s (slotAt s n 0))
   unfolding expNode heldIn kinds
   expAt-not h = exp-node values s n ∙ rw (h, exp-child 3 0 h (omega arith) refl)
 
-  pub expAt-seal : kindAt s n ≡ 4 → expAt values s n ≡ seal (expAt values s (placeAt s n 0))
+  pub expAt-seal : kindAt s n ≡ 4 → expAt values s n ≡ seal (expAt values s (slotAt s n 0))
   unfolding expNode heldIn kinds
   expAt-seal h = exp-node values s n ∙ rw (h, exp-child 4 0 h (omega arith) refl)
 
@@ -93,18 +94,18 @@ module _ (values : List ℕ) {s : List ℕ} {fields constants : ℕ} (nodes : We
   unfolding cmdNode
   cmdAt-skip h = cmd-node values s n ∙ rw h
 
-  pub cmdAt-assign : kindAt s n ≡ 6 → cmdAt values s n ≡ assign n (placeAt s n 0) (expAt values s (placeAt s n 1))
+  pub cmdAt-assign : kindAt s n ≡ 6 → cmdAt values s n ≡ assign n (slotAt s n 0) (expAt values s (slotAt s n 1))
   unfolding cmdNode
   cmdAt-assign h = cmd-node values s n ∙ rw h
 
-  pub cmdAt-sequence : kindAt s n ≡ 7 → cmdAt values s n ≡ sequence (cmdAt values s (placeAt s n 0)) (cmdAt values s (placeAt s n 1))
+  pub cmdAt-sequence : kindAt s n ≡ 7 → cmdAt values s n ≡ sequence (cmdAt values s (slotAt s n 0)) (cmdAt values s (slotAt s n 1))
   unfolding cmdNode heldIn kinds
   cmdAt-sequence h = cmd-node values s n ∙ rw (h, cmd-child 7 0 h (omega arith) refl, cmd-child 7 1 h (omega arith) refl)
 
-  pub cmdAt-if : kindAt s n ≡ 8 → cmdAt values s n ≡ ifElse n (expAt values s (placeAt s n 0)) (cmdAt values s (placeAt s n 1)) (cmdAt values s (placeAt s n 2))
+  pub cmdAt-if : kindAt s n ≡ 8 → cmdAt values s n ≡ ifElse n (expAt values s (slotAt s n 0)) (cmdAt values s (slotAt s n 1)) (cmdAt values s (slotAt s n 2))
   unfolding cmdNode heldIn kinds
   cmdAt-if h = cmd-node values s n ∙ rw (h, cmd-child 8 1 h (omega arith) refl, cmd-child 8 2 h (omega arith) refl)
 
-  pub cmdAt-while : kindAt s n ≡ 9 → cmdAt values s n ≡ while n (expAt values s (placeAt s n 0)) (cmdAt values s (placeAt s n 1))
+  pub cmdAt-while : kindAt s n ≡ 9 → cmdAt values s n ≡ while n (expAt values s (slotAt s n 0)) (cmdAt values s (slotAt s n 1))
   unfolding cmdNode heldIn kinds
   cmdAt-while h = cmd-node values s n ∙ rw (h, cmd-child 9 1 h (omega arith) refl)

@@ -1,22 +1,21 @@
 -- What load answers, check by check in the order of document 01's table.
-use Prim.Native.Nat.{ℕ, _-_, _/_, _≤_, _<_}
-use mathlib.Core.Path.{_≡_}
-use mathlib.Core.Bool.{true, _&&_}
+use Prim.Native.Nat.{ℕ, _-_, _/_}
+use mathlib.Core.Bool.{_&&_}
 use mathlib.Core.List.{List}
 use lib.ListN.{length}
 use lib.Dec.{leb, ltb}
 use Rattle.levels.specs.Levels.{right}
-use Rattle.levels.specs.Lattice.{running}
+use Rattle.levels.specs.Lattice.{ordering}
 use Rattle.value.specs.Bytes.{ofBits}
-use Rattle.sheet.specs.Verdict.{_then_, told}
-use Rattle.sheet.specs.Sections.{Sections, endOf, entriesOf, sectionVerdict, placeAfter, sectionsVerdict, levelsOf, fieldsOf, constantsOf, nodesOf}
-use Rattle.sheet.specs.Names.{isInner, mayFollow, goodName, sameName, newName, namesRight}
-use Rattle.sheet.specs.Nodes.{nodeCount, kindAt, kinds, heldIn, known, operatorZero, placeRight, placesRight, nodeVerdict, verdictBelow, nodesVerdict, WellFormed}
+use Rattle.sections.specs.Verdict.{_then_, told}
+use Rattle.sections.specs.Sections.{sectionEnd, entriesOf, sectionVerdict, offsetAfter, sectionsVerdict, levelsOf, fieldsOf, constantsOf, nodesOf}
+use Rattle.names.specs.Names.{isInner, mayFollow, goodName, sameName, newName, namesRight}
+use Rattle.nodes.specs.Nodes.{nodeCount, kindAt, kinds, heldIn, known, operatorZero, slotRight, slotsRight, nodeVerdict, verdictBelow, nodesVerdict}
 use Rattle.sheet.specs.Trees.{Cmd, lower, expNode, expBelow, expAt, cmdNode, cmdBelow, cmdAt}
-use Rattle.sheet.specs.Uses.{usesIn, usesBelow, usedOnce}
+use Rattle.nodes.specs.Uses.{usesIn, usesBelow, usedOnce}
 use Rattle.sheet.specs.Depth.{expDepth, cmdDepth}
-use Rattle.sheet.specs.declared.verdict.Verdict.{Verdict}
-use Rattle.sheet.specs.declared.verdict.Verdict.the-variants.{Levels, Name, Uses, Depth}
+use Rattle.sections.specs.declared.verdict.Verdict.{Verdict}
+use Rattle.sections.specs.declared.verdict.Verdict.the-variants.{Levels, Name, Uses, Depth}
 
 abbrev pub fieldCount : List ℕ → ℕ
 fieldCount sheet = length (fieldsOf sheet) / 8
@@ -40,23 +39,9 @@ loadOf sheet =
     then told (usedOnce (nodesOf sheet) && ltb 4 (kindAt (nodesOf sheet) (lastOf (nodesOf sheet)))) Uses  -- 6: a node not used once, or the last not a command
     then told (leb (cmdDepth (programOf sheet)) 64) Depth  -- 7: depth over 64
 
--- ── what a sheet has that passes ────────────────────────────────────────────────────────────
-
-pub record Loaded (sheet : List ℕ) : Type 0 where
-  pub sections : Sections sheet
-  pub levels : right (levelsOf sheet) ≡ true
-  pub names : namesRight (fieldsOf sheet) ≡ true
-  -- kinds and operators known, children lower and of the right sort, indices in range, unused places 0
-  pub nodes : WellFormed (nodesOf sheet) (fieldCount sheet) (constantCount sheet)
-  -- every node but the last is a child exactly once
-  pub once : (c : ℕ) → c < lastOf (nodesOf sheet) → usesBelow (nodesOf sheet) (nodeCount (nodesOf sheet)) c ≡ 1
-  -- the last node is a command
-  pub command : 5 ≤ kindAt (nodesOf sheet) (lastOf (nodesOf sheet))
-  pub depth : cmdDepth (programOf sheet) ≤ 64
-
 -- `unfolding judging` opens all of the checks, so that load computes on a sheet's bytes
 unfoldable pub judging : Unit {0}
-unfolding running loadOf _then_ sectionsVerdict sectionVerdict placeAfter entriesOf endOf namesRight newName sameName goodName mayFollow isInner
-    verdictBelow nodeVerdict placesRight placeRight known operatorZero heldIn kinds usedOnce usesBelow usesIn
+unfolding ordering loadOf _then_ sectionsVerdict sectionVerdict offsetAfter entriesOf sectionEnd namesRight newName sameName goodName mayFollow isInner
+    verdictBelow nodeVerdict slotsRight slotRight known operatorZero heldIn kinds usedOnce usesBelow usesIn
     cmdDepth expDepth cmdAt cmdBelow cmdNode expAt expBelow expNode lower ofBits
 judging = tt

@@ -8,7 +8,7 @@ use lib.ListN.{getD}
 use lib.Dec.{eqb, ltb}
 use Rattle.value.specs.Bytes.{ofBytes}
 use Rattle.value.specs.declared.Value.{Value}
-use Rattle.sheet.specs.Nodes.{kindAt, opAt, placeAt}
+use Rattle.nodes.specs.Nodes.{kindAt, opAt, slotAt}
 
 -- expressions; an operator has its place, the number of its node
 pub data Exp : Type 0 where
@@ -43,14 +43,14 @@ module _ (constants s : List ℕ) where
   unfoldable pub expNode : (ℕ → Exp) → ℕ → ℕ → Exp
   expNode child n kind =
       elim (eqb kind 0) [
-        | true ↦ constant (constantAt constants (placeAt s n 0))
+        | true ↦ constant (constantAt constants (slotAt s n 0))
         | false ↦ elim (eqb kind 1) [
-          | true ↦ field (placeAt s n 0)
+          | true ↦ field (slotAt s n 0)
           | false ↦ elim (eqb kind 2) [
-            | true ↦ operator n (opAt s n) (child (placeAt s n 0)) (child (placeAt s n 1))
+            | true ↦ operator n (opAt s n) (child (slotAt s n 0)) (child (slotAt s n 1))
             | false ↦ elim (eqb kind 3) [
-              | true ↦ not (child (placeAt s n 0))
-              | false ↦ seal (child (placeAt s n 0))
+              | true ↦ not (child (slotAt s n 0))
+              | false ↦ seal (child (slotAt s n 0))
             ]
           ]
         ]
@@ -69,12 +69,12 @@ module _ (constants s : List ℕ) where
       elim (eqb kind 5) [
         | true ↦ skip n
         | false ↦ elim (eqb kind 6) [
-          | true ↦ assign n (placeAt s n 0) (expAt (placeAt s n 1))
+          | true ↦ assign n (slotAt s n 0) (expAt (slotAt s n 1))
           | false ↦ elim (eqb kind 7) [
-            | true ↦ sequence (child (placeAt s n 0)) (child (placeAt s n 1))
+            | true ↦ sequence (child (slotAt s n 0)) (child (slotAt s n 1))
             | false ↦ elim (eqb kind 8) [
-              | true ↦ ifElse n (expAt (placeAt s n 0)) (child (placeAt s n 1)) (child (placeAt s n 2))
-              | false ↦ while n (expAt (placeAt s n 0)) (child (placeAt s n 1))
+              | true ↦ ifElse n (expAt (slotAt s n 0)) (child (slotAt s n 1)) (child (slotAt s n 2))
+              | false ↦ while n (expAt (slotAt s n 0)) (child (slotAt s n 1))
             ]
           ]
         ]

@@ -1,16 +1,9 @@
 // Judges a sheet's bytes: its four sections, their counts and entries, the tree that its nodes make. The checks stand in document 01's order.
 pub mod depth;
-pub mod names;
-pub mod nodes;
-mod reader;
-mod section;
-pub mod sections;
-pub mod uses;
-pub mod verdict;
 
-use nodes::kind_of;
-use verdict::Verdict;
-use verdict::passes;
+use nodes::uses;
+use sections::verdict::Verdict;
+use sections::verdict::passes;
 ghost use mathlib.Core.Path.{_≡_};
 ghost use Rattle.sheet.specs.Load.{loadOf};
 
@@ -40,7 +33,7 @@ pub fn load(sheet: &[u8]) -> Verdict
     if !uses::all_once(&used, last) {
         return Verdict::Uses;
     }
-    if kind_of(nodes, last) <= 4 {
+    if nodes::kind_of(nodes, last) <= 4 {
         return Verdict::Uses;
     }
     if depth::fits(&nodes, last, 64) {

@@ -1,5 +1,7 @@
 // Document 01's trials that run and are compared. Standard input has them one after another: the name's length (1 byte), the name, the sheet's
 // length (2 bytes), the sheet. A line comes out for each: the name and what load answers, number, place and units.
+use basis::answer::Answer;
+use basis::answer::unpack;
 use libc::STDIN_FILENO;
 use libc::STDOUT_FILENO;
 ghost use Prim.Native.Nat.{_<_};
@@ -18,7 +20,7 @@ fn all_trials(input: &[u8]) {
     }
 }
 
-// The trial at a place, and the place after it. A trial that is cut ends the input.
+// The trial at an offset, and the offset after it. A trial that is cut ends the input.
 fn trial(input: &[u8], at: usize) -> usize
     requires { ⌜ at < length (now input) ⌝ }
     ensures { λ r. ⌜ at < r ⌝ }
@@ -34,16 +36,16 @@ fn trial(input: &[u8], at: usize) -> usize
         return input.len();
     }
     io::write_all(STDOUT_FILENO, &input[name_at..length_at]);
-    print(beltuqash::beltuqash_load(&input[sheet_at..end]));
+    print(unpack(beltuqash::beltuqash_load(&input[sheet_at..end])));
     end
 }
 
-// An answer word, taken apart.
-fn print(word: u64) {
+// Number, place and units.
+fn print(a: Answer) {
     io::write_all(STDOUT_FILENO, b":");
-    print_number(word % 256);
-    print_number(word / 256 % 65536);
-    print_number(word / 4294967296);
+    print_number(a.number as u64);
+    print_number(a.place as u64);
+    print_number(a.units as u64);
     io::write_all(STDOUT_FILENO, b"\n");
 }
 

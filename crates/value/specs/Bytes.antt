@@ -3,8 +3,10 @@
 use Prim.Native.Nat.{ℕ, _+_, _*_, _/_, _%_}
 use mathlib.Core.List.{List, [], _∷_}
 use lib.IntN.{ℤ}
+use lib.ListN.{getD}
 use mir.Syntax.{w32}
 use mir.Val.{toZ, ofZ}
+use Rattle.value.specs.declared.Value.{Value}
 
 -- a signed 4-byte value
 unfoldable pub ofBits : ℕ → ℤ
@@ -24,3 +26,7 @@ bytesOf z =
     ∷ bitsOf z / 65536 % 256
     ∷ bitsOf z / 16777216 % 256
     ∷ []
+
+-- the value whose bytes stand at an offset
+abbrev pub valueAt : List ℕ → ℕ → Value
+valueAt s at = record { n = ofBytes (getD s at 0) (getD s (at + 1) 0) (getD s (at + 2) 0) (getD s (at + 3) 0) }

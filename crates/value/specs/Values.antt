@@ -108,12 +108,6 @@ operatorOf op x y =
     op
     (Is (orOf x y))
 
--- 13 result out of range, 14 divisor 0. Success is number 0.
-abbrev pub numberOf : Computed → ℕ
-numberOf (Is x) = 0
-numberOf (OutOfRange z) = 13
-numberOf DivisorZero = 14
-
 -- `unfolding operating` opens all of the above, so that an operator on two numbers computes
 unfoldable pub operating : Unit {0}
 unfolding operatorOf quotientOf remainderOf exactly truth isTrue

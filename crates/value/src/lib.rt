@@ -3,14 +3,16 @@
 // narrowed in one place, `exact`.
 ghost use mathlib.Core.Bool.{false, cond};
 ghost use mathlib.Core.Path.{_≡_};
+ghost use Prim.Native.Nat.{_+_, _≤_};
 ghost use lib.IntN.{pos, negsuc, negℤ, natAbs, _-ℤ_};
+ghost use lib.ListN.{length};
+ghost use lib.Seq.{sets};
 ghost use lib.Signed.{_<ℤ_};
 ghost use mir.Syntax.{w32};
 ghost use mir.Val.{SFits};
-ghost use Rattle.value.specs.Values.{exactly, sumOf, differenceOf, productOf, quotientOf, remainderOf, operatorOf};
-ghost use Rattle.value.specs.Values.{eqZ, floor, quot};
+ghost use Rattle.value.specs.Values.{exactly, sumOf, differenceOf, productOf, quotientOf, remainderOf, operatorOf, eqZ, floor, quot};
 ghost use Rattle.value.specs.Values.{truth, equalOf, lessOf, atMostOf, isTrue, andOf, orOf, notOf};
-ghost use Rattle.value.specs.Bytes.{ofBits, bitsOf, ofBytes, bytesOf};
+ghost use Rattle.value.specs.Bytes.{ofBits, bitsOf, ofBytes, bytesOf, valueAt};
 
 // A number from `LEAST` to `GREATEST`.
 pub struct Value {
@@ -80,6 +82,26 @@ impl Value {
             (u / 65536 % 256) as u8,
             (u / 16777216 % 256) as u8,
         ]
+    }
+
+    // The value whose bytes stand at an offset.
+    pub fn read(bytes: &[u8], at: usize) -> Value
+        requires { ⌜ at + 4 ≤ length (now bytes) ⌝ }
+        ensures { λ r. ⌜ r ≡ valueAt (now (bytes .entry)) at ⌝ }
+    {
+        Value::of_bytes(bytes[at], bytes[at + 1], bytes[at + 2], bytes[at + 3])
+    }
+
+    // Writes its bytes at an offset.
+    pub fn write(self, out: &mut [u8], at: usize)
+        requires { ⌜ at + 4 ≤ length (now out) ⌝ }
+        ensures { λ _. ⌜ now (out .exit) ≡ sets (now (out .entry)) at (bytesOf (self .n)) ⌝ }
+    {
+        let bytes = self.to_bytes();
+        out[at] = bytes[0];
+        out[at + 1] = bytes[1];
+        out[at + 2] = bytes[2];
+        out[at + 3] = bytes[3];
     }
 
     // The number, with room for a result.

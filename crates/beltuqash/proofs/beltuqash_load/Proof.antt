@@ -1,10 +1,12 @@
--- Load answers the word of its verdict.
+-- The word of what load answers.
 use borrow.Author.Needs.{needs}
+use mathlib.Core.Path.{ap, _∙_}
+use Rattle.basis.specs.Answer.{wordOf}
 use Rattle.beltuqash.proofs.beltuqash_load.Statement.{statement}
 use Rattle.beltuqash.proofs.beltuqash_load.Tie as tie
 
 returns : tie.Need-returns
-returns c = c .judge-sheet .ensures
+returns c = c .pack .ensures ∙ ap wordOf (c .before .judge-sheet .ensures)
 
 pub beltuqash-load-spec : {M : Type 1} → statement M
-beltuqash-load-spec = tie.close (tie.spec (λ c κs. search needs) returns)
+beltuqash-load-spec = tie.close (tie.spec (λ c κs. search needs) (λ c κs. search needs) returns)

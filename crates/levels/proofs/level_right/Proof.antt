@@ -8,7 +8,7 @@ use mathlib.Core.Path.{_≡_, sym, _∙_}
 use mathlib.Core.Bool.{true}
 use Rattle.basis.proofs.Tests.{all-of, all-fails}
 use Rattle.levels.specs.Levels.{count}
-use Rattle.levels.specs.Judging.{pairRight, levelRight}
+use Rattle.levels.specs.Inside.Judging.{pairRight, levelRight}
 use Rattle.levels.proofs.level_right.Statement.{statement}
 use Rattle.levels.proofs.level_right.Tie as tie
 

@@ -4,7 +4,7 @@ use mathlib.Core.Path.{sym}
 use mathlib.Core.Bool.{and-true}
 use borrow.Author.Tests.{lt-ltb, le-ltb}
 use Rattle.levels.specs.Levels.{below}
-use Rattle.levels.specs.Judging.{pairRight}
+use Rattle.levels.specs.Inside.Judging.{pairRight}
 use Rattle.levels.proofs.pair_right.Statement.{statement}
 use Rattle.levels.proofs.pair_right.Tie as tie
 

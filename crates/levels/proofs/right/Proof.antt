@@ -9,7 +9,7 @@ use mathlib.Core.Bool.{true, true≢false}
 use denote.Ref.{now}
 use Rattle.basis.proofs.Tests.{is-false}
 use Rattle.levels.specs.Levels.{count, right}
-use Rattle.levels.specs.Judging.{levelRight}
+use Rattle.levels.specs.Inside.Judging.{levelRight}
 use Rattle.levels.proofs.Facts.{facts}
 use Rattle.levels.proofs.Judging.{level-right, judged}
 use Rattle.levels.proofs.right.Statement.{statement}

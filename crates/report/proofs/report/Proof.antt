@@ -1,28 +1,20 @@
 -- A file that is cut is refused with number 1, and one that is not is complete and has its run's text.
 use borrow.Author.Needs.{needs}
-use native.Mathlib.Omega.{arith}
-use mathlib.Core.Path.{sym, _∙_}
-use denote.Ref.{now}
-use Rattle.report.specs.Putting.{Room}
+use mathlib.Core.Path.{sym, ap, _∙_}
 use Rattle.report.specs.Text.{refusedText}
-use Rattle.report.proofs.Putting.{put-begins}
-use Rattle.report.proofs.Printing.{refused-length}
+use Rattle.report.proofs.Putting.{begins-as}
 use Rattle.report.proofs.Filing.{complete}
-use Rattle.report.proofs.Reporting.{report-cut, report-run, begins-as}
+use Rattle.report.proofs.Reporting.{report-cut, report-run}
 use Rattle.report.proofs.report.Statement.{statement}
 use Rattle.report.proofs.report.Tie as tie
-
-room : (c : tie.After-put-refused-arg) → Room (now (c .before .before .before .before .before .args .text)) 0 (refusedText 1 0 0)
-room c = record { fits = omega (arith, c .before .before .before .before .before .pre, refused-length 1 0 0 (omega arith) (omega arith) (omega arith)) }
-
-put-refused-requires : tie.Need-put-refused-requires
-put-refused-requires c κs = room c
 
 returns : tie.Need-returns
 returns c =
     let called = c .before .before in
-    let cut = called .before .before in
-    begins-as (sym (report-cut _ (sym (cut .before .is-cut .ensures) ∙ cut .if1 .taken))) (put-begins (room (called .before)) (called .put-refused .ensures))
+    let answer = called .before .before in
+    let cut = answer .before in
+    let is = report-cut _ (sym (cut .before .is-cut .ensures) ∙ cut .if1 .taken) in
+    begins-as (ap refusedText (answer .refusal .ensures) ∙ sym is) (called .print-refused .ensures)
 
 report-run-requires : tie.Need-report-run-requires
 report-run-requires c κs =
@@ -40,8 +32,8 @@ report-spec =
     tie.close
     (tie.spec
     (λ c κs. search needs)
-    (λ c. search needs)
-    put-refused-requires
+    (λ c κs. search needs)
+    (λ c κs. search needs)
     (λ c. search needs)
     returns
     report-run-requires

@@ -11,17 +11,17 @@ use lib.Dec.{leb}
 use lib.ListN.{length}
 use denote.Ref.{now}
 use Rattle.levels.specs.Levels.{right}
-use Rattle.sheet.specs.Verdict.{passesOf}
-use Rattle.sheet.specs.Sections.{levelsOf, fieldsOf, constantsOf, nodesOf, sectionsVerdict}
-use Rattle.sheet.specs.Names.{namesRight}
-use Rattle.sheet.specs.Nodes.{In, nodeCount, kindAt, nodesVerdict}
-use Rattle.sheet.specs.Uses.{usedOnce}
+use Rattle.sections.specs.Verdict.{passesOf}
+use Rattle.sections.specs.Sections.{levelsOf, fieldsOf, constantsOf, nodesOf, sectionsVerdict}
+use Rattle.names.specs.Names.{namesRight}
+use Rattle.nodes.specs.Nodes.{In, nodeCount, kindAt, nodesVerdict}
+use Rattle.nodes.specs.Uses.{usedOnce}
 use Rattle.sheet.specs.Depth.{cmdDepth}
 use Rattle.sheet.specs.Load.{fieldCount, constantCount, lastOf, programOf}
-use Rattle.sheet.specs.declared.verdict.Verdict.the-variants.{Passes}
-use Rattle.sheet.proofs.Verdicts.{passes-is}
+use Rattle.sections.specs.declared.verdict.Verdict.the-variants.{Passes}
+use Rattle.sections.proofs.Verdicts.{passes-is}
 use Rattle.sheet.proofs.Depths.{cmd-depth}
-use Rattle.sheet.proofs.Counted.{all-counted, zeros}
+use Rattle.nodes.proofs.Counted.{all-counted, zeros}
 use Rattle.sheet.proofs.Loading.{nodes-length, NodesPass, layout-told, levels-told, names-told, nodes-told, unused-told, expression-told, depth-told, none-told, formed}
 use Rattle.sheet.proofs.load.Statement.{statement}
 use Rattle.sheet.proofs.load.Tie as tie

@@ -6,13 +6,14 @@ use mathlib.Core.Path.{_≡_, refl, sym, ap, _∙_}
 use mathlib.Core.List.{List, [], _∷_}
 use lib.ListN.{length}
 use denote.Ref.{now}
-use Rattle.sheet.specs.Sections.{levelsOf, constantsOf, nodesOf}
+use Rattle.sections.specs.Sections.{levelsOf, constantsOf, nodesOf}
 use Rattle.sheet.specs.Load.{fieldCount, lastOf}
-use Rattle.flow.specs.Tasks.{First, CmdIn, Ran}
-use Rattle.beltuqash.specs.Answer.{wordOf}
-use Rattle.beltuqash.specs.Calls.{Outcome, ended}
+use Rattle.marks.specs.Inside.Meanings.{First}
+use Rattle.flow.specs.Inside.Tasks.{CmdIn, Ran}
+use Rattle.basis.specs.Answer.{Outcome}
+use Rattle.beltuqash.specs.Calls.{ended}
 use Rattle.beltuqash.proofs.Checking.{few-fields, nodes-long, fits-long}
-use Rattle.beltuqash.proofs.Running.{moved, stop-out, task-in, Done, left-done, runs-done, left-stopped, runs-stopped}
+use Rattle.beltuqash.proofs.Running.{moved, stop-out, task-in, Done, left-done, runs-done, marks-few, left-stopped, runs-stopped}
 use Rattle.beltuqash.proofs.runs.run_from.Statement.{statement}
 use Rattle.beltuqash.proofs.runs.run_from.Tie as tie
 
@@ -70,18 +71,18 @@ ran c =
 fetch-requires : tie.Need-fetch-requires
 fetch-requires c κs =
     let given = start-of (c .before) .pre in
-    rw (count-is (c .before)) (few-fields _ (given .loaded), fits-long _ _ (given .fits), refl)
+    rw (count-is (c .before)) (few-fields _ (given .taken .loaded), fits-long _ _ (given .taken .fits), refl)
 
 first-task-requires : tie.Need-first-task-requires
 first-task-requires c κs =
     let parts = c .before .before in
     let given = start-of parts .pre in
-    (rw (rows-are parts) (given .loaded .levels), given .mode-known)
+    (rw (rows-are parts) (given .taken .loaded .levels), given .mode-known)
 
 sub-run : tie.Need-sub-run
 sub-run c =
     let parts = fields-of (c .before .before) in
-    omega (arith, ap length (nodes-are parts), nodes-long _ (start-of parts .pre .loaded) .0)
+    omega (arith, ap length (nodes-are parts), nodes-long _ (start-of parts .pre .taken .loaded) .0)
 
 run-requires : tie.Need-run-requires
 run-requires c κs =
@@ -103,27 +104,28 @@ returns c =
     let r = c .before .before in
     let high = c .before .if1 .taken in
     let is = runs-stopped (ran r) high (now (run-start r .args .out)) in
-    (c .stopped .ensures _ _ ∙ ap (λ (x : Outcome). wordOf (x .answer)) (sym is), sym (ap (λ (x : Outcome). x .out) is ∙ stop-out _ _ (ran r .ran .told high) _ _))
+    (c .stopped .ensures _ _ ∙ ap (λ (x : Outcome). x .answer) (sym is), sym (ap (λ (x : Outcome). x .out) is ∙ stop-out _ _ (ran r .ran .told high) _ _))
 
 deliver-requires : tie.Need-deliver-requires
 deliver-requires c κs =
     let r = c .before .before .before in
     let given = run-start r .pre in
-    rw (count-is (fields-of (constants-of r))) (few-fields _ (given .loaded), given .room)
+    rw (count-is (fields-of (constants-of r))) (few-fields _ (given .taken .loaded), given .room-is, marks-few (ran r))
 
-sub-pack : tie.Need-sub-pack
-sub-pack c =
-    let else = c .before .before .before .before .before in
-    omega (arith, left-done (ran (else .before)) (else .if1 .left))
+sub-success : tie.Need-sub-success
+sub-success c =
+    let else = c .before .before .before .before .before .before in
+    omega (arith, c .left-in .ensures, left-done (ran (else .before)) (else .if1 .left))
 
 returns-2 : tie.Need-returns-2
 unfolding ended
 returns-2 c =
-    let given-back = c .before .before .before in
+    let left = c .before in
+    let given-back = left .before .before .before in
     let else = given-back .before .before .before in
     let r = else .before in
     let is = runs-done (ran r) (else .if1 .left) (now (run-start r .args .out)) in (
-      c .pack .ensures ∙ ap (λ (x : Outcome). wordOf (x .answer)) (sym is),
+      rw (left .left-in .ensures) at (c .success .ensures) ∙ ap (λ (x : Outcome). x .answer) (sym is),
       rw (count-is (fields-of (constants-of r))) at (given-back .deliver .ensures) ∙ ap (λ (x : Outcome). x .out) (sym is),
     )
 
@@ -142,8 +144,8 @@ run-from-spec =
     stopped-requires
     returns
     deliver-requires
-    (λ c. search needs)
-    sub-pack
+    (λ c κs. search needs)
+    sub-success
     (λ c κs. search needs)
     (λ c. search needs)
     returns-2)

@@ -8,7 +8,7 @@ use mathlib.Core.Bool.{Bool}
 use denote.Ref.{now}
 use Rattle.basis.proofs.Tests.{None, none-at-first, none-more, first-is, first-none}
 use Rattle.levels.specs.Lattice.{lattice}
-use Rattle.rules.specs.Stores.{storeOf}
+use Rattle.store.specs.Stores.{storeOf}
 use Rattle.handout.specs.Requests.{askedCount}
 use Rattle.handout.specs.Answers.{refuses, refusesAt, firstRefusing}
 use Rattle.handout.proofs.Requesting.{right-has}
@@ -36,21 +36,21 @@ refused-is : (c : tie.After-refuses Inv-loop μ-loop) →
     let at-loop = c .before .before .before in
     refused at-loop (at-loop .loop .position) ≡ c .refuses .result
 refused-is c =
-    let asked = c .before in
-    let a = start-of (asked .before .before) .args in
-    sym (c .refuses .ensures ∙ ap (refuses (lattice (now (a .rows))) (a .reader)) (asked .asked-at .ensures))
+    let field = c .before in
+    let a = start-of (field .before .before) .args in
+    sym (c .refuses .ensures ∙ ap (λ (i : ℕ). refuses (lattice (now (a .rows))) (a .reader) (storeOf (now (a .store)) i)) (field .field-at .ensures .0))
 
 count-requires : tie.Need-count-requires Inv-loop μ-loop
-count-requires c κs = omega (arith, right-has _ _ (c .before .before .before .pre .asks .right) .size)
+count-requires c κs = omega (arith, right-has _ _ (c .before .before .before .pre .request-right) .size)
 
 loop-holds : tie.Need-loop-holds Inv-loop μ-loop
 loop-holds c = (omega arith, none-at-first _)
 
-asked-at-requires : tie.Need-asked-at-requires Inv-loop μ-loop
-asked-at-requires c κs = (start-of (c .before) .pre .asks, inside c)
+field-at-requires : tie.Need-field-at-requires Inv-loop μ-loop
+field-at-requires c κs = omega (arith, inside c, right-has _ _ (start-of (c .before) .pre .request-right) .size)
 
 refuses-requires : tie.Need-refuses-requires Inv-loop μ-loop
-refuses-requires c κs = faces (start-of (c .before .before) .pre) _ _ (inside (c .before)) (c .asked-at .ensures)
+refuses-requires c κs = faces (start-of (c .before .before) .pre) _ _ (inside (c .before)) (c .field-at .ensures .0)
 
 returns : tie.Need-returns Inv-loop μ-loop
 unfolding firstRefusing
@@ -81,7 +81,7 @@ first-refusing-spec =
     μ-loop
     count-requires
     loop-holds
-    asked-at-requires
+    field-at-requires
     refuses-requires
     returns
     (λ c. search needs)

@@ -10,12 +10,12 @@ use lib.Seq.{sets}
 use denote.Ref.{now}
 use Rattle.basis.proofs.Tests.{None}
 use Rattle.levels.specs.Lattice.{Lattice, lattice}
-use Rattle.rules.specs.Rules.{Cell, Store}
-use Rattle.rules.specs.Marks.{Mark}
-use Rattle.rules.specs.Stores.{entryAt, storeOf}
-use Rattle.flow.proofs.Filling.{headed, headed-length, filled, fill-first, fill-next, fill-last}
+use Rattle.store.specs.Cells.{Store}
+use Rattle.store.specs.Marks.{Mark}
+use Rattle.store.specs.Stores.{storeOf}
+use Rattle.basis.proofs.Filling.{headed, headed-length, filled, fill-first, fill-next, fill-last}
 use Rattle.handout.specs.Requests.{askedCount}
-use Rattle.handout.specs.Answers.{shown, allShown, answerBytes, refusesAt}
+use Rattle.handout.specs.Answers.{answerAt, shown, allShown, answerBytes, refusesAt}
 use Rattle.handout.proofs.Requesting.{right-has}
 use Rattle.handout.proofs.Answering.{faces, none-refuses, none-shown, one-shown-more, entry-length, entries-length}
 use Rattle.handout.proofs.answers.give.Statement.{statement}
@@ -23,7 +23,7 @@ use Rattle.handout.proofs.answers.give.Tie as tie
 
 abbrev Inv-loop : tie.InvT-loop
 Inv-loop rows store reader request answer₀ asked i₀ answer i =
-    (i ≤ asked) × (answer ≡ filled (asked % 256) (allShown (lattice rows) reader (storeOf store) request i) i answer₀) × (length answer ≡ length answer₀)
+    (i ≤ asked) × (answer ≡ filled (asked % 256) (allShown (lattice rows) reader (storeOf store) request i) (answerAt i) answer₀) × (length answer ≡ length answer₀)
 
 abbrev μ-loop : tie.MeasureT-loop
 μ-loop rows store reader request answer₀ asked i₀ answer i = asked - i
@@ -48,27 +48,27 @@ inside : (c : tie.In-loop Inv-loop μ-loop) → c .before .loop .i < askedCount 
 inside c = omega (arith, c .loop-test .taken, c .before .before .count .ensures .0)
 
 count-requires : tie.Need-count-requires Inv-loop μ-loop
-count-requires c κs = omega (arith, right-has _ _ (c .before .before .before .before .pre .asks-as .asks .right) .size)
+count-requires c κs = omega (arith, right-has _ _ (c .before .before .before .before .pre .asks-as .request-right) .size)
 
-slice-write-answer : tie.Need-slice-write-answer Inv-loop μ-loop
-slice-write-answer c = omega (arith, start-of c .pre .room)
+slice-write-out : tie.Need-slice-write-out Inv-loop μ-loop
+slice-write-out c = omega (arith, start-of c .pre .room)
 
-slice-write-answer-2 : tie.Need-slice-write-answer-2 Inv-loop μ-loop
-slice-write-answer-2 c = simp length-set (omega (arith, start-of c .pre .room))
+slice-write-out-2 : tie.Need-slice-write-out-2 Inv-loop μ-loop
+slice-write-out-2 c = simp length-set (omega (arith, start-of c .pre .room))
 
 loop-holds : tie.Need-loop-holds Inv-loop μ-loop
 loop-holds c =
     let start = start-of c in
     let asked = c .count .result % 256 in
-    let z = now (start .args .answer) in (
+    let z = now (start .args .out) in (
       omega arith,
       fill-first asked z (omega (arith, start .pre .room))
-          ∙ ap (λ (l : List ℕ). filled asked l 0 (headed asked z)) (sym (none-shown (rows-of c) (start .args .reader) (store-of c) (request-of c))),
+          ∙ ap (λ (l : List ℕ). filled asked l (answerAt 0) (headed asked z)) (sym (none-shown (rows-of c) (start .args .reader) (store-of c) (request-of c))),
       refl,
     )
 
-asked-at-requires : tie.Need-asked-at-requires Inv-loop μ-loop
-asked-at-requires c κs = let in-loop = c .before in (start-of (in-loop .before .before) .pre .asks-as .asks, inside in-loop)
+field-at-requires : tie.Need-field-at-requires Inv-loop μ-loop
+field-at-requires c κs = let in-loop = c .before in omega (arith, inside in-loop, right-has _ _ (start-of (in-loop .before .before) .pre .asks-as .request-right) .size)
 
 show-requires : tie.Need-show-requires Inv-loop μ-loop
 show-requires c κs =
@@ -77,10 +77,12 @@ show-requires c κs =
     let counted = at-loop .before in
     let start = start-of counted in
     let asked = counted .count .result % 256 in
-    let long = headed-length asked (now (start .args .answer)) in (
+    let long = headed-length asked (now (start .args .out)) in (
       omega (arith, inside in-loop, start .pre .room, at-loop .loop .inv .2),
-      faces (start .pre .asks-as) _ _ (inside in-loop) (c .asked-at .ensures),
-      rw (c .asked-at .ensures) (passes counted _ (inside in-loop)),
+      record {
+        faces = faces (start .pre .asks-as) _ _ (inside in-loop) (c .field-at .ensures .0);
+        passes = rw (c .field-at .ensures .0) (passes counted _ (inside in-loop));
+      },
     )
 
 loop-again : tie.Need-loop-again Inv-loop μ-loop
@@ -91,7 +93,7 @@ loop-again c =
     let at-loop = in-loop .before in
     let counted = at-loop .before in
     let a = start-of counted .args in
-    let z = now (a .answer) in
+    let z = now (a .out) in
     let 𝓛 = rows-of counted in
     let σ = store-of counted in
     let request = request-of counted in
@@ -102,19 +104,19 @@ loop-again c =
     let none = passes counted in (
       omega (arith, in-loop .loop-test .taken),
       call .show .ensures
-          ∙ ap₂ (λ (l : List ℕ) (d : Cell Mark). sets l (entryAt i) (shown 𝓛 (a .reader) d)) (inv .1) (word .asked-at .ensures)
-          ∙ fill-next asked (allShown 𝓛 (a .reader) σ request i) _ i (headed asked z)
-          (entries-length 𝓛 (a .reader) σ request i (λ j h. none j (omega arith)))
-          (entry-length 𝓛 (a .reader) σ request _ none i less)
+          ∙ ap₂ (λ (l : List ℕ) (k : ℕ). sets l (answerAt i) (shown 𝓛 (a .reader) (σ k))) (inv .1) (word .field-at .ensures .0)
+          ∙ fill-next asked (allShown 𝓛 (a .reader) σ request i) _ (answerAt i) (answerAt (i + 1)) (headed asked z)
+          (omega (arith, entries-length 𝓛 (a .reader) σ request i (λ j h. none j (omega arith))))
+          (omega (arith, entry-length 𝓛 (a .reader) σ request _ none i less))
           (omega (arith, start-of counted .pre .room, headed-length asked z))
-          ∙ ap (λ (l : List ℕ). filled asked l (i + 1) (headed asked z)) (one-shown-more 𝓛 (a .reader) σ request i),
+          ∙ ap (λ (l : List ℕ). filled asked l (answerAt (i + 1)) (headed asked z)) (one-shown-more 𝓛 (a .reader) σ request i),
       call .show .kept .0 ∙ inv .2,
     )
 
 same-length : tie.Need-same-length Inv-loop μ-loop
 same-length c =
     let counted = c .before .before in
-    c .before .loop .inv .2 ∙ headed-length (counted .count .result % 256) (now (start-of counted .args .answer))
+    c .before .loop .inv .2 ∙ headed-length (counted .count .result % 256) (now (start-of counted .args .out))
 
 returns : tie.Need-returns Inv-loop μ-loop
 unfolding answerBytes
@@ -122,12 +124,12 @@ returns c =
     let at-loop = c .before in
     let counted = at-loop .before in
     let a = start-of counted .args in
-    let z = now (a .answer) in
+    let z = now (a .out) in
     let all = le-antisymm (at-loop .loop .inv .0) (c .loop-test .left) in
     let shown-by : ℕ → List ℕ = allShown (rows-of counted) (a .reader) (store-of counted) (request-of counted) in
     at-loop .loop .inv .1
-    ∙ ap₂ (λ (k n : ℕ). filled (n % 256) (shown-by k) k (headed (n % 256) z)) (all ∙ counted .count .ensures .0) (counted .count .ensures .0)
-    ∙ fill-last (askedCount (request-of counted) % 256) (shown-by (askedCount (request-of counted))) (askedCount (request-of counted)) z
+    ∙ ap₂ (λ (k n : ℕ). filled (n % 256) (shown-by k) (answerAt k) (headed (n % 256) z)) (all ∙ counted .count .ensures .0) (counted .count .ensures .0)
+    ∙ fill-last (askedCount (request-of counted) % 256) (shown-by (askedCount (request-of counted))) (answerAt (askedCount (request-of counted))) z (omega arith)
 
 pub give-spec : {M : Type 1} → statement M
 give-spec =
@@ -137,12 +139,12 @@ give-spec =
     μ-loop
     count-requires
     (λ c. search needs)
-    slice-write-answer
-    slice-write-answer-2
+    slice-write-out
+    slice-write-out-2
     loop-holds
     (λ c. search needs)
     (λ c. search needs)
-    asked-at-requires
+    field-at-requires
     show-requires
     (λ c. search needs)
     (λ c. search needs)

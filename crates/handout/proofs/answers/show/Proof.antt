@@ -7,15 +7,17 @@ use lib.Seq.{sets}
 use denote.Ref.{now}
 use Rattle.value.specs.Bytes.{ofBits, bytesOf}
 use Rattle.value.specs.declared.Value.{Value}
+use Rattle.store.specs.Stores.{cellAt}
 use Rattle.handout.proofs.Alike.{shown-elsewhere}
 use Rattle.handout.proofs.Answering.{shown-below}
 use Rattle.handout.proofs.answers.show.Statement.{statement}
 use Rattle.handout.proofs.answers.show.Tie as tie
 
 abbrev start-of : tie.After-at-or-below → tie.Start
-start-of c = c .before .before .before
+start-of c = c .before .before .before .before
 
 returns : tie.Need-returns
+unfolding cellAt
 returns c =
     let call = c .before .before in
     let value = call .before in
@@ -24,11 +26,11 @@ returns c =
     let start = start-of order in
     let a = start .args in
     call .put-entry .ensures
-    ∙ ap (λ (v : Value). sets (now (a .answer)) (a .at) (1 ∷ bytesOf (v .n))) (value .value-in .ensures)
-    ∙ ap (sets (now (a .answer)) (a .at)) (sym (shown-below _ _ _ _ (start .pre .2) (sym (order .at-or-below .ensures) ∙ then .if1 .taken)))
+    ∙ ap (λ (v : Value). sets (now (a .out)) (a .at) (1 ∷ bytesOf (v .n))) (value .value-at .ensures)
+    ∙ ap (sets (now (a .out)) (a .at)) (sym (shown-below _ _ _ _ (start .pre .1 .passes) (sym (order .at-or-below .ensures) ∙ then .if1 .taken)))
 
 returns-2 : tie.Need-returns-2
-unfolding ofBits
+unfolding ofBits cellAt
 returns-2 c =
     let call = c .before .before in
     let zero = call .before in
@@ -36,8 +38,8 @@ returns-2 c =
     let order = else .before in
     let a = start-of order .args in
     call .put-entry2 .ensures
-    ∙ ap (λ (z : ℤ). sets (now (a .answer)) (a .at) (0 ∷ bytesOf z)) (zero .of-bits .ensures)
-    ∙ ap (sets (now (a .answer)) (a .at)) (sym (shown-elsewhere _ _ _ _ (sym (order .at-or-below .ensures) ∙ else .if1 .left)))
+    ∙ ap (λ (z : ℤ). sets (now (a .out)) (a .at) (0 ∷ bytesOf z)) (zero .of-bits .ensures)
+    ∙ ap (sets (now (a .out)) (a .at)) (sym (shown-elsewhere _ _ _ _ (sym (order .at-or-below .ensures) ∙ else .if1 .left)))
 
 pub show-spec : {M : Type 1} → statement M
 show-spec =

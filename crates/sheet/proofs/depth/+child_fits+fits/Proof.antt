@@ -3,14 +3,12 @@ use borrow.Author.Needs.{needs}
 use Prim.Native.Nat.{ℕ, _+_, _*_, _<_, zero-le}
 use native.Mathlib.Omega.{arith}
 use mathlib.Core.Path.{_≡_, sym, ap, _∙_}
-use mathlib.Core.List.{List}
 use borrow.Author.Tests.{not-true, not-false, le-leb}
 use borrow.Fn.Kinds.{In}
 use borrow.Fn.PlainCycle.{Measures, is, falls, and}
 use lib.Dec.{leb}
 use denote.Ref.{now}
-use Rattle.sheet.specs.Nodes.{kindAt, placeAt, heldIn, isChild}
-use Rattle.sheet.specs.Depth.{depthAt, depthIn, NodeIn}
+use Rattle.nodes.specs.Nodes.{kindAt, heldIn, isChild}
 use Rattle.sheet.proofs.Depths.{no-child, a-child, some-depth, too-deep, one-decides, child-node}
 use Rattle.sheet.proofs.depth.child_fits.Reads as child-fits
 use Rattle.sheet.proofs.depth.child_fits.Kinds as child-fits-kinds
@@ -18,10 +16,10 @@ use Rattle.sheet.proofs.depth.+child_fits+fits.Lts-child_fits as child-
 use Rattle.sheet.proofs.depth.fits.Reads as fits
 use Rattle.sheet.proofs.depth.fits.Kinds as fits-kinds
 use Rattle.sheet.proofs.depth.+child_fits+fits.Lts-fits as lts
-use Rattle.sheet.proofs.nodes.held_in.Reads as held-in
-use Rattle.sheet.proofs.nodes.is_child.Reads as is-child
-use Rattle.sheet.proofs.nodes.kind_of.Reads as kind-of
-use Rattle.sheet.proofs.nodes.place.Reads as place
+use Rattle.nodes.proofs.held_in.Reads as held-in
+use Rattle.nodes.proofs.is_child.Reads as is-child
+use Rattle.nodes.proofs.kind_of.Reads as kind-of
+use Rattle.nodes.proofs.slot.Reads as slot
 use Rattle.sheet.proofs.depth.+child_fits+fits.{statement}
 use Rattle.sheet.proofs.depth.+child_fits+fits.Tie.{close}
 
@@ -46,12 +44,12 @@ lower t = and 2 fits-kinds.ps (falls 2 fits-kinds.ps _<_ μ-fits t) fits.Pre
 
 -- what each calls
 abbrev child-callees : ℕ → child-lts.Claims
-child-callees t = (kind-of.Asked, kind-of.Learnt, held-in.Asked, held-in.Learnt, is-child.Asked, is-child.Learnt, place.Asked, place.Learnt, lower t, fits.Post)
+child-callees t = (kind-of.Asked, kind-of.Learnt, held-in.Asked, held-in.Learnt, is-child.Asked, is-child.Learnt, slot.Asked, slot.Learnt, lower t, fits.Post)
 
 abbrev callees : ℕ → lts.Claims
 callees t = (child-lower t, child-fits.Post)
 
--- whether the place holds a child, as the code asked
+-- whether the slot holds a child, as the code asked
 asked : (t : ℕ) (c : child-lts.After-is-child (child-callees t) (child-at t) child-fits.Post) →
     let args = c .before .before .before .before .args in
     isChild (heldIn (kindAt (now (now (args .nodes))) (args .n)) (args .k)) ≡ c .is-child .result
@@ -63,8 +61,8 @@ kind-of-requires t c κs = c .before .pre .1 .0 .inside
 held-in-requires : (t : ℕ) → child-lts.Need-held-in-requires (child-callees t) (child-at t) child-fits.Post
 held-in-requires t c κs = c .before .before .pre .1 .1
 
-place-requires : (t : ℕ) → child-lts.Need-place-requires (child-callees t) (child-at t) child-fits.Post
-place-requires t c κs =
+slot-requires : (t : ℕ) → child-lts.Need-slot-requires (child-callees t) (child-at t) child-fits.Post
+slot-requires t c κs =
     let pre = c .before .before .before .before .before .before .pre .1 in
     (pre .0 .inside, pre .1)
 
@@ -73,13 +71,13 @@ fits-requires t c κs =
     let then = c .before .before in
     let (measure, pre) = then .before .before .before .before .before .pre in
     let (below, inner) = child-node (pre .0) _ (pre .1) (asked t (then .before) ∙ then .if1 .taken) in
-    rw (c .place .ensures .0) (omega arith, inner)
+    rw (c .slot .ensures .0) (omega arith, inner)
 
 child-returns : (t : ℕ) → child-lts.Need-returns (child-callees t) (child-at t) child-fits.Post
 child-returns t c =
     let then = c .before .before .before in
     let most = then .before .before .before .before .before .args .most in
-    λ values. rw (c .before .place .ensures .0) at (c .fits2 .ensures values)
+    λ values. rw (c .before .slot .ensures .0) at (c .fits2 .ensures values)
     ∙ ap (λ (d : ℕ). leb d most) (sym (a-child values _ _ _ (asked t (then .before) ∙ then .if1 .taken)))
 
 child-returns-2 : (t : ℕ) → child-lts.Need-returns-2 (child-callees t) (child-at t) child-fits.Post
@@ -144,7 +142,7 @@ pub +child-fits+fits-spec : {M : Type 1} → statement M
     (kind-of-requires t)
     (held-in-requires t)
     (λ c κs. search needs)
-    (place-requires t)
+    (slot-requires t)
     (fits-requires t)
     (child-returns t)
     (child-returns-2 t))

@@ -1,0 +1,2 @@
+-- What only contracts and proofs inside the product cite.
+pub mod Asks

@@ -1,0 +1,3 @@
+-- What only contracts inside the product cite.
+pub mod Judging
+pub mod Two

@@ -1,0 +1,2 @@
+-- What marks' numbers and the words of a run mean. No public contract cites it.
+pub mod Inside

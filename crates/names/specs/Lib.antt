@@ -1,0 +1,2 @@
+-- The fields' names.
+pub mod Names

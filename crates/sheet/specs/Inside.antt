@@ -1,0 +1,3 @@
+-- What only contracts and proofs inside the product cite.
+pub mod Depth
+pub mod Loaded
