@@ -7,7 +7,7 @@ use beltuqash_tests::model::sheet::Sheet;
 
 const DEFINITIONS: &str = include_str!("../../../../crates/secrecy/specs/Flag.antt");
 
-/// The bytes that a definition stands for: lists of numbers, nodes whose places
+/// The bytes that a definition stands for: lists of numbers, nodes whose slots
 /// are all below 256, and names of other definitions.
 fn defined(name: &str) -> Vec<u8> {
     let start = format!("\n{name} =\n");
