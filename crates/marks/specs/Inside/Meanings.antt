@@ -1,4 +1,4 @@
--- What the numbers of marks mean. A run's functions ask about marks by their numbers, through the questions of `src/marks` alone, and a run's own
+-- What the numbers of marks mean. A run's functions ask about marks by their numbers, through this crate's questions alone, and a run's own
 -- number says which marks they are. Nothing else in a run knows: each contract reads "whatever the numbers of this run mean".
 use Prim.Native.Nat.{ℕ, _/_, _%_, _<_}
 use mathlib.Core.Path.{_≡_}
