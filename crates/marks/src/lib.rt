@@ -1,4 +1,4 @@
-// All that a run asks about marks, by their numbers. The run's own number says which marks they are: `specs/Meanings`. No other module of a run
+// All that a run asks about marks, by their numbers. The run's own number says which marks they are: `Inside/Meanings`. No other module of a run
 // knows, and other marks are other cases here.
 pub mod level_marks;
 pub mod parts;

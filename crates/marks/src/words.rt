@@ -1,5 +1,5 @@
 // Numbers that hold several: a value with its mark, a stop, a task. So what recursive functions are given and answer is handed on in registers.
-// `specs/Words` gives such numbers their meaning and lists their layouts; no other module knows them.
+// `Inside/Words` gives such numbers their meaning and lists their layouts; no other module knows them.
 use value::Value;
 ghost use mathlib.Core.Path.{_≡_};
 ghost use Prim.Native.Nat.{_<_};

@@ -9,7 +9,7 @@
 --   a task              run             context    0                             0         0
 --
 -- To a run, bits 32 to 63 of a field and 32 to 62 of an expression are one number, the mark's. What stands inside a mark's number, a run and a
--- context's number is a matter of `specs/Meanings`.
+-- context's number is a matter of `Meanings`.
 use Prim.Native.Nat.{ℕ, _-_, _/_, _%_, _≤_, _<_}
 use mathlib.Core.Path.{_≡_}
 use mathlib.Core.Bool.{cond}
