@@ -4,6 +4,7 @@ use Prim.Native.Nat.{ℕ}
 use mathlib.Core.Path.{_≡_, refl, sym, ap, _∙_}
 use mathlib.Core.Bool.{true, false, true≢false}
 use mathlib.Core.List.{List, [], _∷_, _++_}
+use Rattle.basis.specs.Numbers as numbers
 use Rattle.basis.specs.declared.answer.Answer.{Answer}
 use Rattle.basis.specs.Answer.{success, refusal, Outcome}
 use Rattle.basis.specs.Checks.{Check, allHold, tells, checked}
@@ -80,13 +81,13 @@ tells-one Q (c ∷ rest) (q also each) h =
 
 -- no check of the list tells number 0: so all hold if the number is 0
 abbrev pub Numbered : List Check → Type 0
-Numbered checks = Each (λ a. a .number ≡ 0 → ⊥) checks
+Numbered checks = Each (λ a. a .number ≡ numbers.done → ⊥) checks
 
 module _ (checks : List Check) where
-  pub all-hold : Numbered checks → tells checks .number ≡ 0 → allHold checks ≡ true
-  all-hold numbered e = split (allHold checks) (λ t. t) (λ f. absurd (tells-one (λ a. a .number ≡ 0 → ⊥) checks numbered f e))
+  pub all-hold : Numbered checks → tells checks .number ≡ numbers.done → allHold checks ≡ true
+  all-hold numbered e = split (allHold checks) (λ t. t) (λ f. absurd (tells-one (λ a. a .number ≡ numbers.done → ⊥) checks numbered f e))
 
-  pub some-fails : (tells checks .number ≡ 0 → ⊥) → allHold checks ≡ false
+  pub some-fails : (tells checks .number ≡ numbers.done → ⊥) → allHold checks ≡ false
   some-fails n = split (allHold checks) (λ t. absurd (n (ap (λ (a : Answer). a .number) (tells-success checks t)))) (λ f. f)
 
   -- ── a call ────────────────────────────────────────────────────────────────────────────────
@@ -102,8 +103,8 @@ module _ (checks : List Check) where
     refuses h = rw h
 
     -- number 0 comes only past all checks
-    pub past-checks : Numbered checks → checked checks out next .answer .number ≡ 0 → (allHold checks ≡ true) × (checked checks out next ≡ next)
+    pub past-checks : Numbered checks → checked checks out next .answer .number ≡ numbers.done → (allHold checks ≡ true) × (checked checks out next ≡ next)
     past-checks numbered e =
         split (allHold checks)
         (λ t. (t, goes-on t))
-        (λ f. absurd (tells-one (λ a. a .number ≡ 0 → ⊥) checks numbered f (rw (refuses f) at e)))
+        (λ f. absurd (tells-one (λ a. a .number ≡ numbers.done → ⊥) checks numbered f (rw (refuses f) at e)))

@@ -29,13 +29,13 @@ use Rattle.handout.specs.Inside.Asks.{AsksAs}
 use Rattle.beltuqash.specs.Calls.{sheetChecks, storeChecks, runChecks, requestChecks, handOutChecks, refusedPosition, load}
 use Rattle.beltuqash.specs.Inside.Given.{Taken, Given, Requested}
 
--- ── no check tells number 0 ─────────────────────────────────────────────────────────────────
+-- ── no check tells success ──────────────────────────────────────────────────────────────────
 
-never : {holds : Bool} (number : ℕ) → (number ≡ 0 → ⊥) → holds ≡ false → number ≡ 0 → ⊥
+never : {holds : Bool} (number : ℕ) → (number ≡ numbers.done → ⊥) → holds ≡ false → number ≡ numbers.done → ⊥
 never number some f = some
 
 module _ (sheet : List ℕ) where
-  some-number : passesOf (loadOf sheet) ≡ false → verdictNumber (loadOf sheet) ≡ 0 → ⊥
+  some-number : passesOf (loadOf sheet) ≡ false → verdictNumber (loadOf sheet) ≡ numbers.done → ⊥
   some-number e = eqb-false _ _ e
 
   pub sheet-numbered : Numbered (sheetChecks sheet)

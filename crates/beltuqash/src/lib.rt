@@ -28,9 +28,9 @@ pub extern "C" fn beltuqash_run(
 ) -> u64
     ensures { λ r. ⌜ Yields (run (now (sheet .entry)) (now (store .entry)) mode fuel (now (out .entry))) r (now (out .exit)) ⌝ }
 {
-    let refusal = checks::judge_run(sheet, store, mode, fuel, out.len());
-    if refusal.number != DONE {
-        return pack(refusal);
+    let refused = checks::judge_run(sheet, store, mode, fuel, out.len());
+    if refused.number != DONE {
+        return pack(refused);
     }
     pack(runs::run_from(sheet, store, mode, fuel, out))
 }

@@ -24,8 +24,8 @@ ghost use Rattle.marks.specs.Inside.Words.{Place, markIn, Goes};
 ghost use Rattle.marks.specs.Inside.Meanings.{Joins};
 ghost use Rattle.flow.specs.Inside.Tasks.{meaningIn, ExpIn, Evaluated, Operated};
 
-// The operator at node n, on the values in two words.
-fn operate(parts: &[&[u8]; 3], run: u32, n: usize, left: u64, right: u64) -> u64
+// The operator at node n, between the values in two words.
+fn operate(parts: &[&[u8]; 3], left: u64, n: usize, right: u64, run: u32) -> u64
     requires { ⌜ Joins (meaningIn (map now (now parts)) run) (markIn left) (markIn right) × In (nodesIn (map now (now parts))) n × Place n ⌝ }
     ensures { λ r. ⌜ Operated (map now (now (parts .entry))) run n left right r ⌝ }
 {
@@ -57,11 +57,11 @@ pub fn expression(parts: &[&[u8]; 3], work: &[u64; 64], n: usize, run: u32) -> u
     if kind_in(parts, n) == 2 {
         let a = slot_in(parts, n, 0);
         if kind_in(parts, a) < 2 {
+            let left = leaf(parts, work, a, run);
             let b = slot_in(parts, n, 1);
             if kind_in(parts, b) < 2 {
-                let left = leaf(parts, work, a, run);
                 let right = leaf(parts, work, b, run);
-                return operate(parts, run, n, left, right);
+                return operate(parts, left, n, right, run);
             }
         }
     }
@@ -95,7 +95,7 @@ fn eval(parts: &[&[u8]; 3], work: &[u64; 64], n: usize, run: u32) -> u64
             }
             y
         };
-        return operate(parts, run, n, left, right);
+        return operate(parts, left, n, right, run);
     }
     if kind < 2 {
         return leaf(parts, work, n, run);

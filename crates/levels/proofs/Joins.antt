@@ -3,7 +3,7 @@
 use Prim.Native.Nat.{ℕ, _<_}
 use mathlib.Core.Path.{_≡_}
 use mathlib.Core.Logic.{_≢_}
-use mathlib.Core.Bool.{false}
+use mathlib.Core.Bool.{true, false}
 use Rattle.basis.proofs.Tests.{is-false}
 use Rattle.levels.specs.Lattice.{Lattice, Laws}
 
@@ -23,8 +23,12 @@ module _ (𝓛 : Lattice) (𝓘 : Laws 𝓛) where
       (join-least (join-least (join-l a bc) (le-trans (join-l b c) (join-r a bc))) (le-trans (join-r b c) (join-r a bc)))
       (join-least (le-trans (join-l a b) (join-l ab c)) (join-least (le-trans (join-r a b) (join-l ab c)) (join-r ab c)))
 
+  -- a level at or below another adds nothing to it
+  pub join-above : (a b : ℕ) → a < levels → le b a ≡ true → join a b ≡ a
+  join-above a b h below = le-antisym (join-in a b) h (join-least (le-refl a) below) (join-l a b)
+
   pub join-idem : (a : ℕ) → a < levels → join a a ≡ a
-  join-idem a h = le-antisym (join-in a a) h (join-least (le-refl a) (le-refl a)) (join-l a a)
+  join-idem a h = join-above a a h (le-refl a)
 
   pub join-bot : (a : ℕ) → a < levels → join bot a ≡ a
   join-bot a h = le-antisym (join-in bot a) h (join-least (bot-least a) (le-refl a)) (join-r bot a)

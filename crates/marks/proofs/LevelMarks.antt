@@ -10,13 +10,13 @@ use Rattle.levels.specs.Lattice.{lattice}
 use Rattle.levels.proofs.Bounds.{lowest-is, highest-is}
 use Rattle.levels.proofs.Laws.{laws}
 use Rattle.rules.specs.Ends.{notBelow, partialTest, gives, at}
-use Rattle.store.specs.Marks.{Mark, whole, partial, levelOf, isPartial, markOf, byteOf, modeOf}
+use Rattle.store.specs.Marks.{Mark, whole, partial, levelOf, isPartial, markOf, byteOf, modeOf, markKnown}
 use Rattle.rules.specs.LevelMarks.{joined, entered}
 use Rattle.marks.specs.Inside.Words.{whyOf, Stop}
 use Rattle.marks.specs.Inside.Meanings.{Meaning, Constant, Sealed, Joined, Entered, Stored, constantIn, sealIn, LevelRun, StandsFor, levelMarks}
 use Rattle.marks.proofs.Results.{answers-gives, answers-stops}
 use Rattle.store.proofs.Marks.{byte-back, is-whole, is-partial, known-is}
-use Rattle.marks.proofs.Marking.{joined-same, level-mark, stored-below, stored-strict, stored-permissive}
+use Rattle.marks.proofs.Marking.{joined-same, joined-above, level-mark, stored-below, stored-strict, stored-permissive}
 
 module _ (rows : List ℕ) (number run : ℕ) where
   abbrev 𝓢 : Meaning
@@ -74,6 +74,11 @@ module _ (rows : List ℕ) (number run : ℕ) where
           let most = few g in
           answers-gives (omega arith) (rw (stored-below (lattice rows) number context (levelOf (markOf old)) (markOf m) le) (ap gives (rw (← is) (sym (g .0)))))
           (g .1, omega arith)
+
+      -- a field that keeps its mark
+      pub store-kept : lattice rows .le context (levelOf (markOf old)) ≡ true → m ≡ old → markKnown (count rows) old ≡ true → Stored 𝓢 n context old m m
+      store-kept le e known =
+          store-below le (rw (e, level-mark rows h context level .0) (joined-above rows old context h known le, known))
 
       pub store-strict : {left r : ℕ} → lattice rows .le context (levelOf (markOf old)) ≡ false → number ≡ 0 → Stop numbers.notBelow n left r → Stored 𝓢 n context old m r
       unfolding whyOf at

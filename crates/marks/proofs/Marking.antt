@@ -7,7 +7,7 @@ use mathlib.Core.List.{List}
 use borrow.Author.Tests.{ne-eqb}
 use Rattle.levels.specs.Levels.{count, below, right, joinOf, meetOf}
 use Rattle.levels.specs.Lattice.{Lattice, lattice}
-use Rattle.levels.proofs.Joins.{join-idem}
+use Rattle.levels.proofs.Joins.{join-above, join-idem}
 use Rattle.levels.proofs.Laws.{laws, le-at, join-at, meet-at}
 use Rattle.levels.proofs.Facts.{facts}
 use Rattle.store.specs.Marks.{Mark, whole, partial, levelOf, isPartial, markOf, strict, permissive, modeOf, markKnown}
@@ -23,6 +23,16 @@ mark-idem rows h (partial a) level = ap partial (join-idem (lattice rows) (laws 
 
 pub joined-same : (rows : List ℕ) (byte : ℕ) → right rows ≡ true → markKnown (count rows) byte ≡ true → markOf byte ≡ joined (lattice rows) (markOf byte) (markOf byte)
 joined-same rows byte h known = sym (mark-idem rows h (markOf byte) (known-is _ byte known .1))
+
+-- joined with a level at or below its own, it is itself
+mark-above : (rows : List ℕ) → right rows ≡ true → (m : Mark) (context : ℕ) → levelOf m < count rows → lattice rows .le context (levelOf m) ≡ true → joined (lattice rows) m (whole context) ≡ m
+unfolding joined lattice
+mark-above rows h (whole a) context level below = ap whole (join-above (lattice rows) (laws rows h) a context level below)
+mark-above rows h (partial a) context level below = ap partial (join-above (lattice rows) (laws rows h) a context level below)
+
+pub joined-above : (rows : List ℕ) (byte context : ℕ) → right rows ≡ true → markKnown (count rows) byte ≡ true → lattice rows .le context (levelOf (markOf byte)) ≡ true
+    → markOf byte ≡ joined (lattice rows) (markOf byte) (whole context)
+joined-above rows byte context h known below = sym (mark-above rows h (markOf byte) context (known-is _ byte known .1) below)
 
 -- the join of two marks, by their levels
 joined-is : (𝓛 : Lattice) (a b : Mark)

@@ -73,7 +73,8 @@ pub fn enter(parts: &[&[u8]; 3], task: u64, n: usize, m: u32) -> u64
     level_marks::join(rows_in(parts), context, m) as u64
 }
 
-// The mark that the assignment at node n leaves on a field with the old mark, or a stop. A field at the context's own level needs no rows to say so.
+// The mark that the assignment at node n leaves on a field with the old mark, or a stop. A field at the context's own level needs no rows to say so,
+// nor does one that keeps its mark.
 pub fn store(parts: &[&[u8]; 3], task: u64, n: usize, old: u32, m: u32) -> u64
     requires { ⌜ Stores (meaning (rowsIn (map now (now parts))) (runIn task)) n (contextIn task) old m ⌝ }
     ensures { λ r. ⌜ Stored (meaning (rowsIn (map now (now (parts .entry)))) (runIn task)) n (contextIn task) old m r ⌝ }
@@ -81,6 +82,9 @@ pub fn store(parts: &[&[u8]; 3], task: u64, n: usize, old: u32, m: u32) -> u64
     let rows = rows_in(parts);
     let context = context_in(task);
     if old == context || level_marks::at_or_below(rows, context, old) {
+        if m == old {
+            return m as u64;
+        }
         return level_marks::join(rows, m, context) as u64;
     }
     if style_in(run_in(task)) == STRICT {

@@ -21,13 +21,7 @@ fn constant_at(constants: &[u8], a: usize) -> Value
     requires { ⌜ a < length (now constants) / 4 ⌝ }
     ensures { λ r. ⌜ r ≡ constantAt (now (constants .entry)) a ⌝ }
 {
-    let at = a * 4;
-    Value::of_bytes(
-        constants[at],
-        constants[at + 1],
-        constants[at + 2],
-        constants[at + 3],
-    )
+    Value::read(constants, a * 4)
 }
 
 // The same, of the sheet's constants.

@@ -5,6 +5,7 @@ use mathlib.Core.Path.{_≡_}
 use mathlib.Core.List.{List}
 use borrow.Author.Tests.{eq-eqb, ne-eqb}
 use lib.ListN.{length, getD, length-append}
+use Rattle.basis.specs.Numbers as numbers
 use Rattle.basis.specs.declared.answer.Answer.{Answer}
 use Rattle.store.specs.Stores.{entryAt}
 use Rattle.report.specs.Text.{fieldLine, doneText, refusedText, printed}
@@ -14,11 +15,11 @@ use Rattle.report.proofs.Digits.{part-length}
 use Rattle.report.proofs.Fields.{line-length}
 
 module _ (a : Answer) (fields store : List ℕ) where
-  pub printed-done : a .number ≡ 0 → printed a fields store ≡ doneText (a .units) fields store
+  pub printed-done : a .number ≡ numbers.done → printed a fields store ≡ doneText (a .units) fields store
   unfolding printed
   printed-done h = rw (eq-eqb (a .number) 0 h)
 
-  pub printed-refused : (a .number ≡ 0 → ⊥) → printed a fields store ≡ refusedText a
+  pub printed-refused : (a .number ≡ numbers.done → ⊥) → printed a fields store ≡ refusedText a
   unfolding printed
   printed-refused h = rw (ne-eqb (a .number) 0 h)
 

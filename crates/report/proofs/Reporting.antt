@@ -30,7 +30,7 @@ module _ (file : List ℕ) where
   answer-told = word-tells _ (within-fits (run-within (sheetIn file) (storeIn file) (modeIn file) (fuelIn file) lent))
 
   -- number 0 means that the sheet passed
-  pub done-fields : outcomeOf file .answer .number ≡ 0 → length (fieldsOf (sheetIn file)) ≤ 512
+  pub done-fields : outcomeOf file .answer .number ≡ numbers.done → length (fieldsOf (sheetIn file)) ≤ 512
   unfolding outcomeOf run
   done-fields e =
       let sheet = sheetIn file in

@@ -8,6 +8,7 @@ use basis::numbers::DONE;
 ghost use Prim.Native.Nat.{_≤_};
 ghost use mathlib.Core.Path.{_≡_};
 ghost use lib.ListN.{length};
+ghost use Rattle.basis.specs.Numbers.{done};
 ghost use Rattle.report.specs.Inside.Given.{Final};
 ghost use Rattle.report.specs.Report.{longest, Begins};
 ghost use Rattle.report.specs.Text.{doneText, refusedText, printed};
@@ -37,7 +38,7 @@ pub fn print_refused(answer: Answer, out: &mut [u8]) -> usize
 
 // The text of an answer. What a run that is done gave is at hand.
 pub fn print(answer: Answer, fields: &[u8], store: &[u8], out: &mut [u8]) -> usize
-    requires { ⌜ (answer .number ≡ 0 → Final (now fields) (now store)) × (longest ≤ length (now out)) ⌝ }
+    requires { ⌜ (answer .number ≡ done → Final (now fields) (now store)) × (longest ≤ length (now out)) ⌝ }
     ensures { λ r. ⌜ Begins (now (out .exit)) (printed answer (now (fields .entry)) (now (store .entry))) r ⌝ }
 {
     if answer.number == DONE {

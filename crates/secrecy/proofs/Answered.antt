@@ -8,6 +8,7 @@ use borrow.Author.Tests.{eqb-true}
 use lib.Dec.{eqb}
 use lib.ListN.{length, take}
 use lib.Seq.{take-at}
+use Rattle.basis.specs.Numbers as numbers
 use Rattle.basis.specs.Bytes.{wordAt}
 use Rattle.basis.proofs.Tests.{None, both}
 use Rattle.levels.specs.Levels.{count}
@@ -47,7 +48,7 @@ module _ (sheet : List ℕ) (R : ℕ) (request store lent : List ℕ) where
   unfolding answerBytes
   reply-length none = omega (arith, entries-length (order sheet) R (storeOf store) request (askedCount request) none)
 
-  replied : handOut sheet store R request lent .answer .number ≡ 0 → Replied
+  replied : handOut sheet store R request lent .answer .number ≡ numbers.done → Replied
   unfolding handOut answered
   replied e =
       let checks = handOutChecks sheet store R request (length lent) in
@@ -63,7 +64,7 @@ unfolding storeFits
 count-is fields store e = eqb-true _ _ (both (eqb (length store) (storeLength fields)) _ e .1)
 
 pub same-bytes : (sheet : List ℕ) (R : ℕ) (request s t lent₁ lent₂ : List ℕ) → StoresAgree (order sheet) R s t
-    → handOut sheet s R request lent₁ .answer .number ≡ 0 → handOut sheet t R request lent₂ .answer .number ≡ 0
+    → handOut sheet s R request lent₁ .answer .number ≡ numbers.done → handOut sheet t R request lent₂ .answer .number ≡ numbers.done
     → take (answerLength request) (handOut sheet s R request lent₁ .out) ≡ take (answerLength request) (handOut sheet t R request lent₂ .out)
 same-bytes sheet R request s t lent₁ lent₂ agree e₁ e₂ =
     let x = replied sheet R request s lent₁ e₁ in

@@ -8,6 +8,7 @@ use mathlib.Core.List.{List}
 use lib.Dec.{leb}
 use lib.ListN.{length, take}
 use lib.Seq.{take-at}
+use Rattle.basis.specs.Numbers as numbers
 use Rattle.basis.specs.Answer.{Outcome}
 use Rattle.basis.specs.Checks.{allHold}
 use Rattle.basis.proofs.Tests.{both, and-of, all-at, all-of}
@@ -49,13 +50,13 @@ module _ (sheet store : List ℕ) (mode fuel : ℕ) (out : List ℕ) where
     pub left : ℕ
     pub ran : executed ≡ done final left
 
-  number-done : Passed → (x : End Mark) → executed ≡ x → ended (fieldCount sheet) fuel out x .answer .number ≡ 0 → Finished
+  number-done : Passed → (x : End Mark) → executed ≡ x → ended (fieldCount sheet) fuel out x .answer .number ≡ numbers.done → Finished
   unfolding ended
   number-done checks (done σ left) e n = record { checks = checks; final = σ; left = left; ran = e }
   number-done checks (spent place) e n = absurd (omega arith)
   number-done checks (stopped why place left) e n = absurd (why-some why n)
 
-  pub finished : run sheet store mode fuel out .answer .number ≡ 0 → Finished
+  pub finished : run sheet store mode fuel out .answer .number ≡ numbers.done → Finished
   unfolding run runFrom
   finished e =
       let checks = runChecks sheet store mode fuel (length out) in

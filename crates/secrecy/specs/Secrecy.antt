@@ -5,6 +5,7 @@ use mathlib.Core.Path.{_≡_}
 use mathlib.Core.List.{List}
 use mathlib.Core.Logic.{_⊎_, _≢_}
 use lib.ListN.{take}
+use Rattle.basis.specs.Numbers as numbers
 use Rattle.basis.specs.Bytes.{wordAt}
 use Rattle.value.specs.declared.Value.{Value}
 use Rattle.levels.specs.Levels.{count, highestOf}
@@ -43,7 +44,7 @@ module _ (sheet : List ℕ) where
 
     -- success is number 0
     abbrev pub Finishes : Type 0
-    Finishes = outcome .answer .number ≡ 0
+    Finishes = outcome .answer .number ≡ numbers.done
 
     -- success writes exactly the store, at the front of the lent output
     abbrev pub finalStore : List ℕ
@@ -55,7 +56,7 @@ module _ (sheet : List ℕ) where
     reply = handOut sheet store R request lent
 
     abbrev pub Answers : Type 0
-    Answers = reply .answer .number ≡ 0
+    Answers = reply .answer .number ≡ numbers.done
 
     -- success writes exactly the answer, at the front of the lent output
     abbrev pub answerWritten : List ℕ

@@ -144,24 +144,24 @@ module _ {M : Type 1} (𝓤 : URA M) (H : Heap 𝓤) (𝓜 : Model 𝓤 H) (𝓖
     knows = cited 𝓤 H (Met 𝓤 H machine T clauses) 𝓜 𝓡 γ k
 
 -- where the locals lie; room for each; what each holds
-abbrev Homes : List Local → Type 0
+abbrev pub Homes : List Local → Type 0
 Homes [] = Unit {0}
 Homes (l ∷ ls) = ℕ × Homes ls
 
-abbrev rooms : {M : Type 1} (𝓤 : URA M) (ls : List Local) → Homes ls → List (Item 𝓤)
+abbrev pub rooms : {M : Type 1} (𝓤 : URA M) (ls : List Local) → Homes ls → List (Item 𝓤)
 rooms 𝓤 [] bs = []
 rooms 𝓤 (local τ h ∷ ls) bs = ‵ (froom τ (bs .0) zero) ∷ ‵ (fdies τ (bs .0)) ∷ rooms 𝓤 ls (bs .1)
 
 module _ {M : Type 1} (𝓤 : URA M) (H : Heap 𝓤) where
-  abbrev envAt : (ls : List Local) → Homes ls → Env 𝓤 H
+  abbrev pub envAt : (ls : List Local) → Homes ls → Env 𝓤 H
   envAt [] bs = []
   envAt (local τ h ∷ ls) bs = (τ, bs .0) ∷ envAt ls (bs .1)
 
-  abbrev Contents : Env 𝓤 H → Type 0
+  abbrev pub Contents : Env 𝓤 H → Type 0
   Contents [] = Unit {0}
   Contents (e ∷ E) = Val × Contents E
 
-  abbrev cells : (E : Env 𝓤 H) → Contents E → List (Item 𝓤)
+  abbrev pub cells : (E : Env 𝓤 H) → Contents E → List (Item 𝓤)
   cells [] vs = []
   cells ((τ, b) ∷ E) vs = ‵ (fat fullShare τ b zero (vs .0)) ∷ ‵ (fdies τ b) ∷ cells E (vs .1)
 

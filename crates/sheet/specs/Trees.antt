@@ -1,12 +1,11 @@
 -- The trees that nodes stand for. A tree holds the values of its constants; `constants` and `s` are the parts of the sheet that hold the
 -- constants and the nodes.
-use Prim.Native.Nat.{ℕ, zero, suc, _+_, _*_}
+use Prim.Native.Nat.{ℕ, zero, suc, _*_}
 use mathlib.Core.Bool.{true, false, cond}
 use mathlib.Core.List.{List}
 use lib.IntN.{pos}
-use lib.ListN.{getD}
 use lib.Dec.{eqb, ltb}
-use Rattle.value.specs.Bytes.{ofBytes}
+use Rattle.value.specs.Bytes.{valueAt}
 use Rattle.value.specs.declared.Value.{Value}
 use Rattle.nodes.specs.Nodes.{kindAt, opAt, slotAt}
 
@@ -32,7 +31,7 @@ lower n tree none w = cond (ltb w n) (tree w) none
 
 -- 4 bytes, signed
 abbrev pub constantAt : List ℕ → ℕ → Value
-constantAt s a = record { n = ofBytes (getD s (a * 4) 0) (getD s (a * 4 + 1) 0) (getD s (a * 4 + 2) 0) (getD s (a * 4 + 3) 0) }
+constantAt s a = valueAt s (a * 4)
 
 -- stands where there is no expression
 abbrev pub zeroValue : Exp

@@ -1,4 +1,4 @@
--- At or below the field's level, the value's mark joined with the context. Else a strict run stops, and any other lowers the field.
+-- At or below the field's level, the value's mark joined with the context, which adds nothing where the field keeps its mark. Else a strict run stops, and any other lowers the field.
 use borrow.Author.Needs.{needs}
 use mathlib.Core.Path.{_≡_, sym, ap, _∙_}
 use mathlib.Core.Bool.{true}
@@ -12,7 +12,7 @@ use Rattle.marks.specs.Inside.Parts.{rowsIn}
 use Rattle.marks.specs.Inside.Words.{runIn, contextIn}
 use Rattle.marks.specs.Inside.Meanings.{styleIn, Over, meaning}
 use Rattle.marks.proofs.Marking.{level-mark}
-use Rattle.marks.proofs.LevelMarks.{same-below, store-below, store-strict, store-lowered}
+use Rattle.marks.proofs.LevelMarks.{same-below, store-below, store-kept, store-strict, store-lowered}
 use Rattle.marks.proofs.store.Statement.{statement}
 use Rattle.marks.proofs.store.Tie as tie
 
@@ -60,40 +60,48 @@ style-is c = c .style-in .ensures ∙ ap styleIn (c .before .run-in .ensures)
 at-or-below-requires : tie.Need-at-or-below-requires
 at-or-below-requires c κs = over (c .before)
 
+returns : tie.Need-returns
+unfolding meaning
+returns c =
+    let start = c .before .before .before .before in
+    let p = start .pre in
+    store-kept (rows-of start) (styleIn (run-of start)) (run-of start) (start .args .n) (context-of start) (start .args .m) (p .askable .order) (p .context-known) (start .args .old)
+    (below (c .before)) (c .if3 .taken) (p .mark)
+
 join-requires : tie.Need-join-requires
 unfolding meaning
 join-requires c κs =
-    let context = c .before in
+    let context = c .before .before in
     let p = context .before .before .pre in
     rw (context .before .rows-in .ensures, context .context-in .ensures)
     (record { order = p .askable .order; first = p .seen; second = level-mark _ (p .askable .order) _ (p .context-known) .1 })
 
-returns : tie.Need-returns
-unfolding meaning
-returns c =
-    let context = c .before .before in
-    let start = context .before .before in
-    let p = start .pre in
-    store-below (rows-of start) (styleIn (run-of start)) (run-of start) (start .args .n) (context-of start) (start .args .m) (p .askable .order) (p .context-known) (start .args .old)
-    (below (c .before))
-    (rw (context .before .rows-in .ensures, context .context-in .ensures) at (c .join .ensures))
-
 returns-2 : tie.Need-returns-2
 unfolding meaning
 returns-2 c =
+    let context = c .before .before .before in
+    let start = context .before .before in
+    let p = start .pre in
+    store-below (rows-of start) (styleIn (run-of start)) (run-of start) (start .args .n) (context-of start) (start .args .m) (p .askable .order) (p .context-known) (start .args .old)
+    (below (c .before .before))
+    (rw (context .before .rows-in .ensures, context .context-in .ensures) at (c .join .ensures))
+
+returns-3 : tie.Need-returns-3
+unfolding meaning
+returns-3 c =
     let then = c .before in
     let else = then .before .before .before in
     let start = else .before .before .before .before .before in
     let p = start .pre in
     store-strict (rows-of start) (styleIn (run-of start)) (run-of start) (start .args .n) (context-of start) (start .args .m) (p .askable .order) (p .context-known) (start .args .old)
-    (order-is (else .before) ∙ else .if2 .left) (sym (style-is (then .before)) ∙ then .if3 .taken) (c .stop .ensures)
+    (order-is (else .before) ∙ else .if2 .left) (sym (style-is (then .before)) ∙ then .if4 .taken) (c .stop .ensures)
 
 lowered-requires : tie.Need-lowered-requires
 lowered-requires c κs = over (c .before .before .before .before .before .before)
 
-returns-3 : tie.Need-returns-3
+returns-4 : tie.Need-returns-4
 unfolding meaning
-returns-3 c =
+returns-4 c =
     let last = c .before in
     let else = last .before .before .before in
     let context = else .before .before .before in
@@ -101,7 +109,7 @@ returns-3 c =
     let p = start .pre in
     store-lowered (rows-of start) (styleIn (run-of start)) (run-of start) (start .args .n) (context-of start) (start .args .m) (p .askable .order) (p .context-known) (start .args .old)
     (order-is (else .before) ∙ else .if2 .left)
-    (λ strict. last .if3 .left (style-is (last .before) ∙ strict))
+    (λ strict. last .if4 .left (style-is (last .before) ∙ strict))
     (rw (context .before .rows-in .ensures, context .context-in .ensures) at (c .lowered .ensures))
 
 pub store-spec : {M : Type 1} → statement M
@@ -111,13 +119,14 @@ store-spec =
     (λ c κs. search needs)
     (λ c κs. search needs)
     at-or-below-requires
+    returns
     join-requires
     (λ c. search needs)
-    returns
-    (λ c κs. search needs)
-    (λ c κs. search needs)
-    (λ c κs. search needs)
     returns-2
+    (λ c κs. search needs)
+    (λ c κs. search needs)
+    (λ c κs. search needs)
+    returns-3
     lowered-requires
     (λ c. search needs)
-    returns-3)
+    returns-4)

@@ -263,24 +263,24 @@ front-left t c =
     rw (c .slot-in .ensures .0) (child-in p (left-below (p .ready .formed) _ (p .inside) (omega (arith, front-two t (c .before))) (p .sort)) .1)
 
 front-right : (t : ℕ) (c : front.After-slot-in2 (front-callees t) (front-at t) expression.Post) →
-    let start = c .before .before .before .before .before .before in
+    let start = c .before .before .before .before .before .before .before in
     ExpIn (map now (now (start .args .parts))) (now (start .args .work)) (start .args .run) (c .slot-in2 .result)
 front-right t c =
-    let then = c .before .before .before .before in
+    let then = c .before .before .before .before .before in
     let p = then .before .before .pre .1 in
     rw (c .slot-in2 .ensures .0) (child-in p (right-below (p .ready .formed) _ (p .inside) (front-two t then)) .1)
 
 -- what the leaves gave
 front-given : (t : ℕ) (c : front.After-leaf2 (front-callees t) (front-at t) expression.Post) →
-    let leaf = c .before in
-    let start = leaf .before .before .before .before .before .before .before .before .before in
+    let leaf = c .before .before .before .before in
+    let start = leaf .before .before .before .before .before .before in
     let parts = map now (now (start .args .parts)) in
     (Evaluated parts (now (start .args .work)) (start .args .run) (slotAt (nodesIn parts) (start .args .n) 0) (leaf .leaf .result) × Goes (leaf .leaf .result)) ×
     (Evaluated parts (now (start .args .work)) (start .args .run) (slotAt (nodesIn parts) (start .args .n) 1) (c .leaf2 .result) × Goes (c .leaf2 .result))
 front-given t c =
-    let second = c .before .before .before .before in
-    let first = second .before .before .before in
-    (rw (first .slot-in .ensures .0) at (c .before .leaf .ensures), rw (second .slot-in2 .ensures .0) at (c .leaf2 .ensures))
+    let second = c .before .before .before in
+    let leaf = second .before in
+    (rw (leaf .before .before .before .slot-in .ensures .0) at (leaf .leaf .ensures), rw (second .slot-in2 .ensures .0) at (c .leaf2 .ensures))
 
 front-kind-in-requires : (t : ℕ) → front.Need-kind-in-requires (front-callees t) (front-at t) expression.Post
 front-kind-in-requires t c κs = c .pre .1 .inside
@@ -291,23 +291,21 @@ front-slot-in-requires t c κs = (c .before .before .pre .1 .inside, omega arith
 front-kind-in-requires-2 : (t : ℕ) → front.Need-kind-in-requires-2 (front-callees t) (front-at t) expression.Post
 front-kind-in-requires-2 t c κs = front-left t c .inside
 
+front-leaf-requires : (t : ℕ) → front.Need-leaf-requires (front-callees t) (front-at t) expression.Post
+front-leaf-requires t c κs =
+    let is = c .before .kind-in2 .ensures in
+    (front-left t (c .before .before), omega (arith, c .if2 .taken))
+
 front-slot-in-requires-2 : (t : ℕ) → front.Need-slot-in-requires-2 (front-callees t) (front-at t) expression.Post
-front-slot-in-requires-2 t c κs = (c .before .before .before .before .before .pre .1 .inside, omega arith)
+front-slot-in-requires-2 t c κs = (c .before .before .before .before .before .before .pre .1 .inside, omega arith)
 
 front-kind-in-requires-3 : (t : ℕ) → front.Need-kind-in-requires-3 (front-callees t) (front-at t) expression.Post
 front-kind-in-requires-3 t c κs = front-right t c .inside
 
-front-leaf-requires : (t : ℕ) → front.Need-leaf-requires (front-callees t) (front-at t) expression.Post
-front-leaf-requires t c κs =
-    let two = c .before .before .before in
-    let is = two .before .kind-in2 .ensures in
-    (front-left t (two .before .before), omega (arith, two .if2 .taken))
-
 front-leaf-requires-2 : (t : ℕ) → front.Need-leaf-requires-2 (front-callees t) (front-at t) expression.Post
 front-leaf-requires-2 t c κs =
-    let three = c .before in
-    let is = three .before .kind-in3 .ensures in
-    (front-right t (three .before .before), omega (arith, three .if3 .taken))
+    let is = c .before .kind-in3 .ensures in
+    (front-right t (c .before .before), omega (arith, c .if3 .taken))
 
 front-operate-requires : (t : ℕ) → front.Need-operate-requires (front-callees t) (front-at t) expression.Post
 front-operate-requires t c κs =
@@ -364,9 +362,9 @@ pub +eval+expression-spec : {M : Type 1} → statement M
     (front-kind-in-requires t)
     (front-slot-in-requires t)
     (front-kind-in-requires-2 t)
+    (front-leaf-requires t)
     (front-slot-in-requires-2 t)
     (front-kind-in-requires-3 t)
-    (front-leaf-requires t)
     (front-leaf-requires-2 t)
     (front-operate-requires t)
     (front-returns t)
