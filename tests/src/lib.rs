@@ -4,6 +4,8 @@
 
 pub mod by_hand;
 pub mod compare;
+#[cfg(test)]
+mod edits;
 pub mod generate;
 pub mod model;
 #[cfg(test)]

@@ -31,7 +31,7 @@ use Rattle.rules.proofs.Stops.{EndUpTo, upto-done, upto-spent, upto-stopped, cm
 use Rattle.handout.specs.Requests.{askedCount, requestRight}
 use Rattle.handout.specs.Answers.{answerLength}
 use Rattle.handout.proofs.Requesting.{right-has}
-use Rattle.beltuqash.specs.Calls.{sheetChecks, storeChecks, runChecks, requestChecks, refusedPosition, load, ended, runFrom, run, answered, handOut, Yields}
+use Rattle.beltuqash.specs.Calls.{sheetChecks, storeChecks, runChecks, requestChecks, refusedPosition, load, ended, runFrom, run, answered, handOut, Tells, Yields}
 use Rattle.beltuqash.specs.Inside.Given.{Given}
 use Rattle.beltuqash.proofs.Checking.{load-is, run-holds, nodes-long}
 
@@ -51,12 +51,12 @@ word-tells a fits =
     let units-is : wordOf a / 2 ^ 32 ≡ a .units = omega arith in
     rw (number-is, place-is, units-is)
 
--- two words with two outputs that meet a contract are one
-pub answers-once : (outcome : Outcome) (r s : ℕ) (x y : List ℕ) → Yields outcome r x → Yields outcome s y → (r ≡ s) × (x ≡ y)
-answers-once outcome r s x y p q = (p .0 ∙ sym (q .0), p .1 ∙ sym (q .1))
+-- two words that meet a contract are one, and so are two outputs with them
+pub tells-once : (answer : Answer) (r s : ℕ) → Tells answer r → Tells answer s → r ≡ s
+tells-once answer r s p q = p ∙ sym q
 
-pub load-unique : (sheet : List ℕ) (r s : ℕ) → r ≡ wordOf (load sheet) → s ≡ wordOf (load sheet) → r ≡ s
-load-unique sheet r s p q = p ∙ sym q
+pub yields-once : (outcome : Outcome) (r s : ℕ) (x y : List ℕ) → Yields outcome r x → Yields outcome s y → (r ≡ s) × (x ≡ y)
+yields-once outcome r s x y p q = (tells-once (outcome .answer) r s (p .0) (q .0), p .1 ∙ sym (q .1))
 
 -- ── the range of what a call answers ────────────────────────────────────────────────────────
 

@@ -90,9 +90,13 @@ answered sheet store reader request out =
 unfoldable pub handOut : List ℕ → List ℕ → ℕ → List ℕ → List ℕ → Outcome
 handOut sheet store reader request out = checked (handOutChecks sheet store reader request (length out)) out (answered sheet store reader request out)
 
--- what a call promises: the word that it answers and the lent output afterwards are those of an outcome
+-- what a call promises: the word that it answers is an answer's,
+abbrev pub Tells : Answer → ℕ → Type 0
+Tells answer word = word ≡ wordOf answer
+
+-- and that word and the lent output afterwards are those of an outcome
 abbrev pub Yields : Outcome → ℕ → List ℕ → Type 0
-Yields outcome word out = (word ≡ wordOf (outcome .answer)) × (out ≡ outcome .out)
+Yields outcome word out = Tells (outcome .answer) word × (out ≡ outcome .out)
 
 -- `unfolding calling` opens all of the above and what it cites of sheets, marks and stores, so that a call computes on bytes
 unfoldable pub calling : Unit {0}

@@ -1,4 +1,5 @@
-// The exported calls, on numbers and byte slices. Each answers one word: number, place and units. `specs/Calls` says what each call does.
+// The exported calls, on numbers and byte slices. Each answers one word: number, place and units. `specs/Calls` says what each call does; lent memory
+// that a call only reads stays as it was.
 pub mod checks;
 pub mod runs;
 
@@ -6,13 +7,13 @@ use basis::answer::pack;
 use basis::answer::success;
 use basis::numbers::DONE;
 ghost use mathlib.Core.Path.{_≡_};
-ghost use Rattle.basis.specs.Answer.{wordOf};
-ghost use Rattle.beltuqash.specs.Calls.{load, run, handOut, Yields};
+ghost use Rattle.beltuqash.specs.Calls.{load, run, handOut, Tells, Yields};
 
 // Judges a sheet.
 #[no_mangle]
 pub extern "C" fn beltuqash_load(sheet: &[u8]) -> u64
-    ensures { λ r. ⌜ r ≡ wordOf (load (now (sheet .entry))) ⌝ }
+    ensures { λ r. ⌜ Tells (load (now (sheet .entry))) r ⌝ }
+    ensures { λ _. ⌜ now (sheet .exit) ≡ now (sheet .entry) ⌝ }
 {
     pack(checks::judge_sheet(sheet))
 }
@@ -27,10 +28,11 @@ pub extern "C" fn beltuqash_run(
     out: &mut [u8],
 ) -> u64
     ensures { λ r. ⌜ Yields (run (now (sheet .entry)) (now (store .entry)) mode fuel (now (out .entry))) r (now (out .exit)) ⌝ }
+    ensures { λ _. ⌜ (now (sheet .exit) ≡ now (sheet .entry)) × (now (store .exit) ≡ now (store .entry)) ⌝ }
 {
-    let refused = checks::judge_run(sheet, store, mode, fuel, out.len());
-    if refused.number != DONE {
-        return pack(refused);
+    let refusal = checks::judge_run(sheet, store, mode, fuel, out.len());
+    if refusal.number != DONE {
+        return pack(refusal);
     }
     pack(runs::run_from(sheet, store, mode, fuel, out))
 }
@@ -45,6 +47,7 @@ pub extern "C" fn beltuqash_hand_out(
     out: &mut [u8],
 ) -> u64
     ensures { λ r. ⌜ Yields (handOut (now (sheet .entry)) (now (store .entry)) reader (now (request .entry)) (now (out .entry))) r (now (out .exit)) ⌝ }
+    ensures { λ _. ⌜ (now (sheet .exit) ≡ now (sheet .entry)) × (now (store .exit) ≡ now (store .entry)) × (now (request .exit) ≡ now (request .entry)) ⌝ }
 {
     let refused = checks::judge_hand_out(sheet, store, reader, request, out.len());
     if refused.number != DONE {

@@ -56,7 +56,7 @@ module _ (𝓛 : Lattice) (𝓘 : Laws 𝓛) where
         Inside = λ context. 𝓛 .le a context ≡ true;
         Moved = λ m n. Above n;
         enter-inside = entered-above;
-        store-inside = λ place context old m h. stored-above mode (𝓛 .le context (levelOf old)) context (levelOf old) _ h;
+        store-inside = λ place context old m h. stored-above mode _ context (levelOf old) _ h;
         moved-trans = λ k m n h l. l;
       }
 

@@ -1,7 +1,8 @@
--- The run and the published rules: what a run that is done followed, rule by rule; and for what the rules have, fuel enough.
-use Prim.Native.Nat.{ℕ, zero, suc, _+_}
+-- The run and the published rules: what a run that is done followed, rule by rule; for what the rules have, fuel enough; and that a run that stops has
+-- no end there.
+use Prim.Native.Nat.{ℕ, zero, suc, _+_, _-_}
 use native.Mathlib.Omega.{arith}
-use mathlib.Core.Path.{_≡_, refl, ap}
+use mathlib.Core.Path.{_≡_, refl, subst, ap}
 use mathlib.Core.Bool.{Bool, true, false}
 use Rattle.value.specs.Values.{operatorOf, isTrue}
 use Rattle.value.specs.declared.Value.{Value}
@@ -18,8 +19,8 @@ use Rattle.store.specs.Marks.{Mark, whole, partial, Mode, strict, permissive, l
 use Rattle.rules.specs.LevelMarks.{joined, entered, stored, marking}
 use Rattle.rules.proofs.Units.{while-law}
 use Rattle.rules.specs.Published.{Evaluates, const, var, oper, not, seal, Executes, skip, seq, if-else-t, if-else-f, while-t, while-f, assn-NSU, assn-1, assn-2}
-use Rattle.rules.specs.Published.{Runs, RunsAsPublished}
-use Rattle.rules.proofs.Within.{more-fuel}
+use Rattle.rules.specs.Published.{Runs, RunsAsPublished, StopsUnpublished, DoneOrSpent, is-done, is-spent, ReachesPublished}
+use Rattle.rules.proofs.Within.{more-fuel, done-once, done-or-stopped}
 
 -- what is said of a result, of a done end, where there is one
 data Yields {A : Type 0} (P : A → Type 0) : Result A → Type 0 where
@@ -133,7 +134,7 @@ module _ (𝓛 : Lattice) (𝓘 : Laws 𝓛) where
   updated-leads : (mode : Mode) (place x pc left : ℕ) (σ : Store Mark) (e : Exp) (old c : Cell Mark) → σ x ≡ old → Evaluated σ e c
       → Leads (Executes 𝓛 mode (assign place x e) pc σ) (with (updated (marking 𝓛 mode) place pc old c) left (λ k. done (put x k σ) left))
   unfolding updated stored andThen with at
-  updated-leads mode place x pc left σ e (cell o l) c is (evaluated {n} {k = m} h) = go mode (𝓛 .le pc (levelOf l)) refl
+  updated-leads mode place x pc left σ e (cell o l) c is (evaluated {n} {k = m} h) = go mode _ refl
     where
       go : (mode : Mode) (b : Bool) → 𝓛 .le pc (levelOf l) ≡ b
           → Leads (Executes 𝓛 mode (assign place x e) pc σ)
@@ -246,3 +247,28 @@ module _ (𝓛 : Lattice) (𝓘 : Laws 𝓛) where
 
 pub runs-as-published : RunsAsPublished
 runs-as-published 𝓛 𝓘 mode c pc σ σ′ = (λ x. follows 𝓛 𝓘 mode c pc σ σ′ (x .fuel) (x .left) (x .ends), λ r. runs 𝓛 𝓘 r)
+
+-- ── stops ───────────────────────────────────────────────────────────────────────────────────
+
+pub stops-unpublished : StopsUnpublished
+stops-unpublished 𝓛 𝓘 mode c pc σ fuel why place left e σ′ r =
+    let x = runs 𝓛 𝓘 r in
+    done-or-stopped (marking 𝓛 mode) c pc σ (x .fuel) fuel (x .left) left σ′ why place (x .ends) e
+
+pub reaches-published : ReachesPublished
+reaches-published 𝓛 𝓘 mode c pc σ σ′ r = record {
+  reached = λ fuel. reach fuel (run fuel) refl;
+  enough = x .fuel;
+  finishes = λ fuel h. let s : x .fuel + (fuel - x .fuel) ≡ fuel = omega arith in (x .left + (fuel - x .fuel), rw s at (more-fuel (marking 𝓛 mode) c pc σ (fuel - x .fuel) σ′ (x .fuel) (x .left) (x .ends)));
+}
+  where
+    run : ℕ → End Mark
+    run fuel = exec (marking 𝓛 mode) c pc σ fuel
+
+    x : Runs 𝓛 mode c pc σ σ′
+    x = runs 𝓛 𝓘 r
+
+    reach : (fuel : ℕ) (end : End Mark) → exec (marking 𝓛 mode) c pc σ fuel ≡ end → DoneOrSpent σ′ end
+    reach fuel (done τ left) e = subst (λ (υ : Store Mark). DoneOrSpent σ′ (done υ left)) (done-once (marking 𝓛 mode) c pc σ (x .fuel) fuel (x .left) left σ′ τ (x .ends) e) is-done
+    reach fuel (spent place) e = is-spent
+    reach fuel (stopped why place left) e = absurd (stops-unpublished 𝓛 𝓘 mode c pc σ fuel why place left e σ′ r)

@@ -156,7 +156,7 @@ module _ (𝓛 : Lattice) (𝓘 : Laws 𝓛) (R : ℕ) where
       Inside = Secret;
       Moved = Moved;
       enter-inside = enter-secret;
-      store-inside = λ place context old m h. store-secret mode (𝓛 .le context (levelOf old)) context old _ refl h;
+      store-inside = λ place context old m h. store-secret mode _ context old _ refl h;
       moved-trans = moved-trans;
     }
 

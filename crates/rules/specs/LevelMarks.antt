@@ -26,8 +26,8 @@ module _ (𝓛 : Lattice) where
   stored strict false context A m = fails notBelow
   stored permissive false context A m = fine (partial (𝓛 .meet context A))
 
-  -- A constant is whole BOT. Seal gives whole TOP. The run starts with context BOT. What an assignment leaves is a rule over: is pc at or below A, pc, A, m.
-  abbrev pub markingBy : (Bool → ℕ → ℕ → Mark → Try Mark) → Marking Mark Mark ℕ
+  -- A constant is whole BOT. Seal gives whole TOP. The run starts with context BOT. What an assignment leaves is a rule over pc, the field's mark and m.
+  abbrev pub markingBy : (ℕ → Mark → Mark → Try Mark) → Marking Mark Mark ℕ
   markingBy leaves = record {
     constant = whole (𝓛 .bot);
     sealed = whole (𝓛 .top);
@@ -35,8 +35,12 @@ module _ (𝓛 : Lattice) where
     read = λ i m. m;
     join = joined;
     enter = entered;
-    store = λ place context old m. leaves (𝓛 .le context (levelOf old)) context (levelOf old) m;
+    store = λ place. leaves;
   }
 
+  -- to a field whose mark has level A
+  abbrev pub leaving : (Bool → ℕ → ℕ → Mark → Try Mark) → ℕ → Mark → Mark → Try Mark
+  leaving rule context old m = rule (𝓛 .le context (levelOf old)) context (levelOf old) m
+
   abbrev pub marking : Mode → Marking Mark Mark ℕ
-  marking mode = markingBy (stored mode)
+  marking mode = markingBy (leaving (stored mode))

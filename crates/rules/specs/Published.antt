@@ -1,7 +1,7 @@
 -- The published rules: document 002, figure 2 with the assignments of figures 3 and 5, as relations whose constructors bear the paper's rule names,
 -- and document 01's not and seal beside them. The paper's label A is `whole A`, its A* is `partial A`, and pc is the context.
--- `proofs/Published.antt` proves the statement.
-use Prim.Native.Nat.{ℕ}
+-- `proofs/Published.antt` proves the statements.
+use Prim.Native.Nat.{ℕ, _≤_}
 use mathlib.Core.Path.{_≡_}
 use mathlib.Core.Bool.{true, false}
 use Rattle.value.specs.Values.{operatorOf, notOf, isTrue}
@@ -12,7 +12,7 @@ use Rattle.sheet.specs.Trees as tree
 use Rattle.sheet.specs.Trees.{Exp, constant, field, operator, Cmd, assign, sequence, ifElse, while}
 use Rattle.store.specs.Cells.{cell, Store}
 use Rattle.rules.specs.Rules.{put, exec}
-use Rattle.rules.specs.Ends.{done}
+use Rattle.rules.specs.Ends.{Why, End, done, spent, stopped}
 use Rattle.store.specs.Marks.{Mark, whole, partial, Mode, strict, permissive, levelOf}
 use Rattle.rules.specs.LevelMarks.{joined, marking}
 
@@ -61,3 +61,25 @@ abbrev pub RunsAsPublished : Type 0
 RunsAsPublished =
     (𝓛 : Lattice) → Laws 𝓛 → (mode : Mode) (c : Cmd) (pc : ℕ) (σ σ′ : Store Mark)
     → (Runs 𝓛 mode c pc σ σ′ → Executes 𝓛 mode c pc σ σ′) × (Executes 𝓛 mode c pc σ σ′ → Runs 𝓛 mode c pc σ σ′)
+
+-- A run that stops, with whatever fuel, has no published end.
+abbrev pub StopsUnpublished : Type 0
+StopsUnpublished =
+    (𝓛 : Lattice) → Laws 𝓛 → (mode : Mode) (c : Cmd) (pc : ℕ) (σ : Store Mark) (fuel : ℕ) (why : Why) (place left : ℕ)
+    → exec (marking 𝓛 mode) c pc σ fuel ≡ stopped why place left
+    → (σ′ : Store Mark) → Executes 𝓛 mode c pc σ σ′ → ⊥
+
+-- a run's end is done with this store, or its fuel is used up
+pub data DoneOrSpent (σ′ : Store Mark) : End Mark → Type 0 where
+  is-done : {left : ℕ} → DoneOrSpent σ′ (done σ′ left)
+  is-spent : {place : ℕ} → DoneOrSpent σ′ (spent place)
+
+-- Where the published rules have an end, a run finishes with it or its fuel is used up; with fuel enough it finishes.
+pub record PublishedReached (𝓛 : Lattice) (mode : Mode) (c : Cmd) (pc : ℕ) (σ σ′ : Store Mark) : Type 0 where
+  pub reached : (fuel : ℕ) → DoneOrSpent σ′ (exec (marking 𝓛 mode) c pc σ fuel)
+  pub enough : ℕ
+  pub finishes : (fuel : ℕ) → enough ≤ fuel → (left : ℕ) × (exec (marking 𝓛 mode) c pc σ fuel ≡ done σ′ left)
+
+abbrev pub ReachesPublished : Type 0
+ReachesPublished =
+    (𝓛 : Lattice) → Laws 𝓛 → (mode : Mode) (c : Cmd) (pc : ℕ) (σ σ′ : Store Mark) → Executes 𝓛 mode c pc σ σ′ → PublishedReached 𝓛 mode c pc σ σ′

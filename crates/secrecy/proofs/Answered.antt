@@ -1,13 +1,13 @@
 -- One request on two stores that agree for its reader: where both are answered, no field refuses, and so both answers are the same bytes.
-use Prim.Native.Nat.{ℕ}
+use Prim.Native.Nat.{ℕ, _≤_}
 use native.Mathlib.Omega.{arith}
 use mathlib.Core.Path.{_≡_, sym, ap, _∙_}
 use mathlib.Core.Bool.{true}
 use mathlib.Core.List.{List}
 use borrow.Author.Tests.{eqb-true}
 use lib.Dec.{eqb}
-use lib.ListN.{length, take}
-use lib.Seq.{take-at}
+use lib.ListN.{length, take, drop}
+use lib.Seq.{take-at, drop-at}
 use Rattle.basis.specs.Numbers as numbers
 use Rattle.basis.specs.Bytes.{wordAt}
 use Rattle.basis.proofs.Tests.{None, both}
@@ -32,30 +32,38 @@ use Rattle.beltuqash.proofs.Checking.{hand-out-numbered, hand-out-holds}
 
 -- ── number 0, taken apart ───────────────────────────────────────────────────────────────────
 
-abbrev order : List ℕ → Lattice
+abbrev pub order : List ℕ → Lattice
 order sheet = lattice (levelsOf sheet)
 
 module _ (sheet : List ℕ) (R : ℕ) (request store lent : List ℕ) where
-  abbrev NoneRefuses : Type 0
+  abbrev pub NoneRefuses : Type 0
   NoneRefuses = None (askedCount request) (refusesAt (order sheet) R (storeOf store) request)
 
-  record Replied : Type 0 where
-    requested : Requested sheet store R request
-    none : NoneRefuses
-    written : take (answerLength request) (handOut sheet store R request lent .out) ≡ answerBytes (order sheet) R (storeOf store) request
+  pub record Replied : Type 0 where
+    pub requested : Requested sheet store R request
+    pub none : NoneRefuses
+    pub room : answerLength request ≤ length lent
+    pub written : take (answerLength request) (handOut sheet store R request lent .out) ≡ answerBytes (order sheet) R (storeOf store) request
+    pub later : drop (answerLength request) (handOut sheet store R request lent .out) ≡ drop (answerLength request) lent
 
   reply-length : NoneRefuses → length (answerBytes (order sheet) R (storeOf store) request) ≡ answerLength request
   unfolding answerBytes
   reply-length none = omega (arith, entries-length (order sheet) R (storeOf store) request (askedCount request) none)
 
-  replied : handOut sheet store R request lent .answer .number ≡ numbers.done → Replied
+  pub replied : handOut sheet store R request lent .answer .number ≡ numbers.done → Replied
   unfolding handOut answered
   replied e =
       let checks = handOutChecks sheet store R request (length lent) in
       let (hold, is) = past-checks checks lent (answered sheet store R request lent) (hand-out-numbered sheet store R request (length lent)) e in
       let (requested, room, first) = hand-out-holds sheet store R request (length lent) hold in
       let none = none-refuses (order sheet) R (storeOf store) request first in
-      record { requested = requested; none = none; written = ap (λ (x : Outcome). take (answerLength request) (x .out)) is ∙ take-at _ _ _ (reply-length none) }
+      record {
+        requested = requested;
+        none = none;
+        room = room;
+        written = ap (λ (x : Outcome). take (answerLength request) (x .out)) is ∙ take-at _ _ _ (reply-length none);
+        later = ap (λ (x : Outcome). drop (answerLength request) (x .out)) is ∙ drop-at (answerBytes (order sheet) R (storeOf store) request) _ _ (reply-length none);
+      }
 
 -- ── two answers ─────────────────────────────────────────────────────────────────────────────
 

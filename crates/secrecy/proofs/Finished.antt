@@ -30,7 +30,7 @@ use Rattle.beltuqash.specs.Calls.{runChecks, ended, runFrom, run}
 use Rattle.beltuqash.specs.Inside.Given.{Given}
 use Rattle.beltuqash.proofs.Checking.{run-numbered, run-holds}
 
-why-some : (why : Why) → stopNumber why ≡ 0 → ⊥
+pub why-some : (why : Why) → stopNumber why ≡ numbers.done → ⊥
 why-some outOfRange e = omega arith
 why-some divisorZero e = omega arith
 why-some notBelow e = omega arith
@@ -68,9 +68,8 @@ module _ {sheet store : List ℕ} {mode fuel : ℕ} {out : List ℕ} where
   pub given : Passed sheet store mode fuel out → Given sheet store mode fuel (length out)
   given passed = run-holds sheet store mode fuel (length out) (passed .hold)
 
-  -- its outcome is that of a run that is done
-  pub outcome-is : Passed sheet store mode fuel out → {σ : Store Mark} {left : ℕ} → executed sheet store mode fuel out ≡ done σ left
-      → run sheet store mode fuel out ≡ ended (fieldCount sheet) fuel out (done σ left)
+  -- its outcome is that of its run's end
+  pub outcome-is : Passed sheet store mode fuel out → {x : End Mark} → executed sheet store mode fuel out ≡ x → run sheet store mode fuel out ≡ ended (fieldCount sheet) fuel out x
   unfolding run runFrom
   outcome-is passed e = goes-on (runChecks sheet store mode fuel (length out)) out _ (passed .hold) ∙ ap (ended (fieldCount sheet) fuel out) e
 

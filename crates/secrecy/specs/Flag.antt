@@ -8,7 +8,7 @@ use Rattle.store.specs.Marks.{Mark, whole}
 use Rattle.store.specs.Stores.{entryOf}
 
 -- a node whose slots are all below 256: kind, operator, a, b, c
-abbrev node : ℕ → ℕ → ℕ → ℕ → ℕ → List ℕ
+abbrev pub node : ℕ → ℕ → ℕ → ℕ → ℕ → List ℕ
 node kind op a b c = kind ∷ op ∷ a ∷ 0 ∷ b ∷ 0 ∷ c ∷ 0 ∷ []
 
 -- what both have ahead of their nodes

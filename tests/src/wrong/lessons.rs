@@ -46,7 +46,7 @@ const WITHHELD_FROM_OFFICE: Lesson = Lesson {
 };
 
 const NEVER_CLEAN: Lesson = Lesson {
-    fault: "a partial field stays partial",
+    fault: "no context lies below a partial field",
     sheet: include_bytes!("../../../examples/clean.sheet"),
     reader: 0,
 };

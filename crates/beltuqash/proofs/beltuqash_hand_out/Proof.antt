@@ -1,4 +1,4 @@
--- What the checks tell is told; where they tell success, the answer is written.
+-- What the checks tell is told; where they tell success, the answer is written. What is only read stays as it was.
 use borrow.Author.Needs.{needs}
 use mathlib.Core.Path.{_≡_, refl, sym, ap, _∙_}
 use mathlib.Core.Bool.{true}
@@ -34,7 +34,7 @@ returns c =
     let judged = then .before .before in
     let told = judged .judge-hand-out .ensures in
     let fails = some-fails (checks-of judged) (λ e. then .if1 .taken (ap (λ (x : Answer). x .number) told ∙ e)) in
-    rw (refuses (checks-of judged) _ _ fails) (c .pack .ensures ∙ ap wordOf told, refl)
+    (rw (refuses (checks-of judged) _ _ fails) (c .pack .ensures ∙ ap wordOf told, refl), (refl, refl, refl))
 
 give-requires : tie.Need-give-requires
 give-requires c κs =
@@ -52,8 +52,10 @@ unfolding handOut answered
 returns-2 c =
     let gave = c .before .before .before .before in
     let levels = gave .before .before in
-    let else = levels .before in
-    rw (goes-on (checks-of (else .before .before)) _ _ (holds else)) (c .pack2 .ensures ∙ ap wordOf (c .before .success .ensures), rw (levels .levels .ensures) at (gave .give .ensures))
+    let else = levels .before in (
+      rw (goes-on (checks-of (else .before .before)) _ _ (holds else)) (c .pack2 .ensures ∙ ap wordOf (c .before .success .ensures), rw (levels .levels .ensures) at (gave .give .ensures)),
+      (refl, refl, refl),
+    )
 
 pub beltuqash-hand-out-spec : {M : Type 1} → statement M
 beltuqash-hand-out-spec =

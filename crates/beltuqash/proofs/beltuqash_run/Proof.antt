@@ -1,4 +1,4 @@
--- What the checks tell is told; where they tell success, the run follows.
+-- What the checks tell is told; where they tell success, the run follows. What is only read stays as it was.
 use borrow.Author.Needs.{needs}
 use mathlib.Core.Path.{_≡_, refl, sym, ap, _∙_}
 use mathlib.Core.Bool.{true}
@@ -34,7 +34,7 @@ returns c =
     let judged = then .before .before in
     let told = judged .judge-run .ensures in
     let fails = some-fails (checks-of judged) (λ e. then .if1 .taken (ap (λ (x : Answer). x .number) told ∙ e)) in
-    rw (refuses (checks-of judged) _ _ fails) (c .pack .ensures ∙ ap wordOf told, refl)
+    (rw (refuses (checks-of judged) _ _ fails) (c .pack .ensures ∙ ap wordOf told, refl), (refl, refl))
 
 run-from-requires : tie.Need-run-from-requires
 run-from-requires c κs =
@@ -48,7 +48,7 @@ returns-2 c =
     let ran = c .before .before .before in
     let else = ran .before .before in
     let (answers, leaves) = ran .run-from .ensures in
-    rw (goes-on (checks-of (else .before .before)) _ _ (holds else)) (c .pack2 .ensures ∙ ap wordOf answers, leaves)
+    (rw (goes-on (checks-of (else .before .before)) _ _ (holds else)) (c .pack2 .ensures ∙ ap wordOf answers, leaves), (refl, refl))
 
 pub beltuqash-run-spec : {M : Type 1} → statement M
 beltuqash-run-spec =

@@ -32,7 +32,7 @@ ran c =
 answers : (c : tie.After-beltuqash-run) →
     let called = c .beltuqash-run in
     Yields (outcomeOf (file-of (c .before .before))) (called .result) (called .last .1 .1 .1 .1 .0)
-answers c = rw (← ran (c .before .before)) (c .beltuqash-run .ensures)
+answers c = rw (← ran (c .before .before)) (c .beltuqash-run .ensures .0)
 
 answer-is : (c : tie.After-unpack) → c .unpack .result ≡ outcomeOf (file-of (c .before .before .before .before)) .answer
 answer-is c = rw (c .unpack .ensures, answers (c .before .before) .0) (answer-told _)

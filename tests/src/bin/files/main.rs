@@ -10,6 +10,8 @@ mod proved;
 mod runner;
 mod samples;
 mod trials;
+#[cfg(test)]
+mod worked;
 
 use beltuqash_tests::generate::write::bytes;
 use std::path::PathBuf;
