@@ -1,8 +1,7 @@
 /* An order desk. It loads the sheet whose file it is given (the flag sheet, plain or sealed), runs it in permissive mode at two costs, and asks for
  * fields as a dealer at level 0 would. What the dealer gets is on lines that begin with "dealer"; places and units go to the house only. */
-#include "beltuqash.h"
+#include "common.h"
 
-#include <stdio.h>
 #include <stdlib.h>
 
 enum { FLAG, Q, COST, FIELDS };
@@ -14,9 +13,8 @@ static const char *const names[FIELDS] = {"flag", "q", "cost"};
 /* For the house: which call was refused, and why. */
 static void tell_house(const char *call, uint64_t word)
 {
-    unsigned number = beltuqash_number(word);
-    printf("  house: %s gave number %u at %u after %u units: %s\n", call, number, beltuqash_place(word), (unsigned)beltuqash_units(word),
-           beltuqash_reason(number));
+    printf("  house: %s gave ", call);
+    print_answer(word);
 }
 
 /* The start store: flag and q open with value 0, cost closed. */
@@ -29,7 +27,7 @@ static void make_store(uint8_t *store, int32_t cost)
 }
 
 /* The dealer asks for two fields of a store. */
-static void ask(const uint8_t *sheet, size_t length, const uint8_t *store, unsigned first, unsigned second)
+static void ask(const struct sheet *sheet, const uint8_t *store, unsigned first, unsigned second)
 {
     const unsigned fields[] = {first, second};
     static const char *const ends[] = {",", "\n"};
@@ -37,8 +35,8 @@ static void ask(const uint8_t *sheet, size_t length, const uint8_t *store, unsig
     beltuqash_write_count(request, 2);
     for (unsigned i = 0; i < 2; i++)
         beltuqash_write_asked(request, i, fields[i]);
-    uint64_t word = beltuqash_hand_out(sheet, length, store, beltuqash_store_length(FIELDS), OPEN, request, beltuqash_request_length(2), answer,
-                                       beltuqash_answer_length(2));
+    uint64_t word = beltuqash_hand_out(sheet->bytes, sheet->length, store, beltuqash_store_length(FIELDS), OPEN, request,
+                                       beltuqash_request_length(2), answer, beltuqash_answer_length(2));
     printf("  dealer asks for %s and %s:", names[first], names[second]);
     if (beltuqash_number(word) != BELTUQASH_DONE) {
         printf(" no answer\n");
@@ -54,44 +52,33 @@ static void ask(const uint8_t *sheet, size_t length, const uint8_t *store, unsig
 }
 
 /* One order: run the sheet at this cost, then let the dealer ask. */
-static void serve(const uint8_t *sheet, size_t length, int32_t cost)
+static void serve(const struct sheet *sheet, int32_t cost)
 {
     uint8_t store[BELTUQASH_LONGEST_STORE], final_store[BELTUQASH_LONGEST_STORE];
     size_t store_len = beltuqash_store_length(FIELDS);
     make_store(store, cost);
     printf(" cost %d\n", cost);
-    uint64_t word = beltuqash_run(sheet, length, store, store_len, BELTUQASH_PERMISSIVE, FUEL, final_store, store_len);
+    uint64_t word = beltuqash_run(sheet->bytes, sheet->length, store, store_len, BELTUQASH_PERMISSIVE, FUEL, final_store, store_len);
     if (beltuqash_number(word) != BELTUQASH_DONE) {
         printf("  dealer: no answer\n");
         tell_house("run", word);
         return;
     }
-    ask(sheet, length, final_store, Q, FLAG);
-    ask(sheet, length, final_store, Q, COST);
+    ask(sheet, final_store, Q, FLAG);
+    ask(sheet, final_store, Q, COST);
 }
 
 int main(int argc, char **argv)
 {
-    static uint8_t sheet[BELTUQASH_LONGEST_SHEET + 1]; /* a byte more shows a longer file */
-    FILE *file = argc == 2 ? fopen(argv[1], "rb") : NULL;
-    if (file == NULL) {
+    static struct sheet sheet;
+    if (argc != 2) {
         fprintf(stderr, "usage: order_desk FLAG-SHEET\n");
         return EXIT_FAILURE;
     }
-    size_t length = fread(sheet, 1, sizeof sheet, file);
-    int unread = ferror(file);
-    fclose(file);
-    if (unread) {
-        fprintf(stderr, "%s cannot be read\n", argv[1]);
+    if (!load_sheet(argv[1], &sheet))
         return EXIT_FAILURE;
-    }
     printf("order desk, %s\n", argv[1]);
-    uint64_t word = beltuqash_load(sheet, length);
-    if (beltuqash_number(word) != BELTUQASH_DONE) {
-        tell_house("load", word);
-        return EXIT_FAILURE;
-    }
-    serve(sheet, length, 600);
-    serve(sheet, length, 400);
+    serve(&sheet, 600);
+    serve(&sheet, 400);
     return EXIT_SUCCESS;
 }

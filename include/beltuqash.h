@@ -1,5 +1,7 @@
 /* Beltuqash: runs calculation sheets so that closed fields stay closed.
  *
+ * For C11 and C++11. The archive is for x86-64 Linux.
+ *
  * A call answers one word: a number (0 is success), a place and the units spent. Places and units are for the house, never for a dealer.
  *
  * Bytes: every call takes any bytes, of any length. It reads the stated lengths and nothing else. A pointer may be null where its length is 0.
@@ -13,8 +15,15 @@
 #include <stddef.h>
 #include <stdint.h>
 
+/* The second number goes up with each change of what a call does. */
+#define BELTUQASH_VERSION "0.4.0"
+
+/* A cast of a number, in the words of either language. */
 #ifdef __cplusplus
+#define BELTUQASH_TO(type, number) static_cast<type>(number)
 extern "C" {
+#else
+#define BELTUQASH_TO(type, number) ((type)(number))
 #endif
 
 /* Judges a sheet. A sheet that passes has at most BELTUQASH_LONGEST_SHEET bytes. Numbers 0 to 4, 6, 7 and 19 to 22; the place is a node's number for
@@ -42,7 +51,7 @@ enum beltuqash_mode { BELTUQASH_STRICT = 0, BELTUQASH_PERMISSIVE = 1 };
 
 /* What comes back. Numbers 1 to 7 and 19 to 22 are of the sheet, 8 and 9 of the store, 10 and 11 of the call, 12 to 16 of the run, 17 and 18 of the
  * hand-out. Of 19 to 22, the lowest faulty node is told, and of that node the first that it earns. */
-enum beltuqash_number {
+enum beltuqash_numbers {
     BELTUQASH_DONE = 0,
     BELTUQASH_SHEET_LENGTH = 1,       /* sheet ends too soon or has bytes left */
     BELTUQASH_COUNT_OUTSIDE = 2,      /* a count outside its limits */
@@ -96,27 +105,27 @@ enum {
 };
 
 /* Numbers of two bytes without a sign and of four with one, little-endian. */
-static inline unsigned beltuqash_read_two(const uint8_t *at) { return at[0] | (unsigned)at[1] << 8; }
+static inline unsigned beltuqash_read_two(const uint8_t *at) { return at[0] | BELTUQASH_TO(unsigned, at[1]) << 8; }
 static inline int32_t beltuqash_read_four(const uint8_t *at)
 {
-    return (int32_t)(beltuqash_read_two(at) | (uint32_t)beltuqash_read_two(at + 2) << 16);
+    return BELTUQASH_TO(int32_t, beltuqash_read_two(at) | beltuqash_read_two(at + 2) << 16);
 }
 static inline void beltuqash_write_two(uint8_t *at, unsigned number)
 {
-    at[0] = (uint8_t)number;
-    at[1] = (uint8_t)(number >> 8);
+    at[0] = BELTUQASH_TO(uint8_t, number & 0xff);
+    at[1] = BELTUQASH_TO(uint8_t, number >> 8 & 0xff);
 }
 static inline void beltuqash_write_four(uint8_t *at, int32_t number)
 {
-    beltuqash_write_two(at, (uint32_t)number & 0xffff);
-    beltuqash_write_two(at + 2, (uint32_t)number >> 16);
+    beltuqash_write_two(at, BELTUQASH_TO(uint32_t, number) & 0xffff);
+    beltuqash_write_two(at + 2, BELTUQASH_TO(uint32_t, number) >> 16);
 }
 
 /* The count that a store, a request or an answer begins with. */
 static inline unsigned beltuqash_count(const uint8_t *bytes) { return beltuqash_read_two(bytes); }
 static inline void beltuqash_write_count(uint8_t *bytes, unsigned count) { beltuqash_write_two(bytes, count); }
 
-/* A sheet that load takes: its levels, its fields, and the name of a field, filled with zero bytes. */
+/* A sheet that load takes: its levels, its fields, and the name of a field, up to BELTUQASH_NAME_BYTES characters and filled with zero bytes. */
 static inline unsigned beltuqash_levels(const uint8_t *sheet) { return beltuqash_read_two(sheet); }
 static inline const uint8_t *beltuqash_field_section(const uint8_t *sheet)
 {
@@ -125,7 +134,8 @@ static inline const uint8_t *beltuqash_field_section(const uint8_t *sheet)
 static inline unsigned beltuqash_fields(const uint8_t *sheet) { return beltuqash_read_two(beltuqash_field_section(sheet)); }
 static inline const char *beltuqash_name(const uint8_t *sheet, size_t field)
 {
-    return (const char *)beltuqash_field_section(sheet) + BELTUQASH_COUNT_BYTES + BELTUQASH_NAME_BYTES * field;
+    const void *name = beltuqash_field_section(sheet) + BELTUQASH_COUNT_BYTES + BELTUQASH_NAME_BYTES * field;
+    return BELTUQASH_TO(const char *, name);
 }
 
 /* Marks. A mark that is not partial is whole, and is its level. */
@@ -142,7 +152,7 @@ static inline int32_t beltuqash_value(const uint8_t *store, size_t field)
 }
 static inline void beltuqash_write_field(uint8_t *store, size_t field, unsigned mark, int32_t value)
 {
-    store[beltuqash_store_length(field)] = (uint8_t)mark;
+    store[beltuqash_store_length(field)] = BELTUQASH_TO(uint8_t, mark);
     beltuqash_write_four(store + beltuqash_store_length(field) + 1, value);
 }
 
@@ -166,9 +176,9 @@ static inline int32_t beltuqash_shown_value(const uint8_t *answer, size_t positi
 }
 
 /* The answer word, taken apart. */
-static inline unsigned beltuqash_number(uint64_t word) { return (unsigned)(word & 0xff); }
-static inline unsigned beltuqash_place(uint64_t word) { return (unsigned)(word >> 8 & 0xffff); }
-static inline uint32_t beltuqash_units(uint64_t word) { return (uint32_t)(word >> 32); }
+static inline unsigned beltuqash_number(uint64_t word) { return BELTUQASH_TO(unsigned, word & 0xff); }
+static inline unsigned beltuqash_place(uint64_t word) { return BELTUQASH_TO(unsigned, word >> 8 & 0xffff); }
+static inline uint32_t beltuqash_units(uint64_t word) { return BELTUQASH_TO(uint32_t, word >> 32); }
 
 /* What a number means, in plain words, for the house. The text is constant: never null, never to be freed. */
 static inline const char *beltuqash_reason(unsigned number)

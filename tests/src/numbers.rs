@@ -60,7 +60,7 @@ fn constants_of(header: &str, start: &str) -> List {
 }
 
 fn in_header(text: &str) -> List {
-    constants_of(text, "enum beltuqash_number {")
+    constants_of(text, "enum beltuqash_numbers {")
 }
 
 /// pub const NAME: u8 = NUMBER; constants of other types are no numbers of the table.
