@@ -12,4 +12,5 @@ pub mod model;
 mod numbers;
 pub mod random;
 pub mod search;
+pub mod shares;
 pub mod wrong;

@@ -2,10 +2,11 @@
 
 use super::calls::Compared;
 use super::partial_asked::PartialAsked;
-use super::{hex, Times};
+use super::{counted, hex, Times};
 use crate::model::hand_out::hand_out_watched;
 use crate::model::hand_out::rules::{ANSWER_ENTRY_BYTES, DOCUMENT};
 use crate::model::{hand_out, HandOut, Outcome};
+use crate::shares::Counted;
 use std::fmt;
 
 /// How often each number came back, and the partial fields asked.
@@ -13,6 +14,15 @@ use std::fmt;
 pub struct Histogram {
     pub all: Times,
     pub partial_asked: PartialAsked,
+}
+
+impl Histogram {
+    /// Every number, and every kind of partial fields asked.
+    pub fn counted(&self) -> Vec<Counted> {
+        let kinds = self.partial_asked.each();
+        let kinds = kinds.map(|(kind, times)| (format!("had {kind}"), times));
+        counted(&NUMBERS, &self.all).chain(kinds).collect()
+    }
 }
 
 /// Hand-out gives 0, load's, 8, 9, 17, 11 and 18.
@@ -56,6 +66,7 @@ impl Compared for HandOut {
 mod tests {
     use super::*;
     use crate::compare::calls::tests::*;
+    use crate::shares::OF_HAND_OUTS;
 
     #[test]
     fn the_model_agrees_with_itself_and_the_generator() {
@@ -66,6 +77,25 @@ mod tests {
         for (kind, times) in partial_asked.each() {
             assert!(times > 60, "{kind}: {times}");
         }
+    }
+
+    #[test]
+    fn what_did_not_come_is_named() {
+        let mut histogram = with_itself::<HandOut>(10_000);
+        let short = OF_HAND_OUTS.shortfalls(10_000, histogram.counted());
+        assert_eq!(short, Vec::<String>::new());
+        histogram.all[18] = 33;
+        histogram.partial_asked = PartialAsked::default();
+        let short = OF_HAND_OUTS.shortfalls(10_000, histogram.counted());
+        assert_eq!(
+            short[..2],
+            [
+                "of 10000 hand-outs only 33 gave number 18, fewer than 1 of 300",
+                "of 10000 hand-outs only 0 had a partial field withheld beside an open one, \
+                 fewer than 1 of 300",
+            ]
+        );
+        assert_eq!(short.len(), 1 + histogram.partial_asked.each().count());
     }
 
     #[test]

@@ -2,11 +2,13 @@
 
 use super::calls::Compared;
 use super::divisions::{Divided, Divisions};
-use super::{hex, Times};
+use super::{counted, hex, Times};
+use crate::model::number::DONE;
 use crate::model::rules::DOCUMENT;
 use crate::model::run::run_watched;
 use crate::model::store::STORE_ENTRY_BYTES;
 use crate::model::{run, Call, Outcome};
+use crate::shares::Counted;
 use std::fmt;
 
 /// How often each number came back, in all and by mode, and the divisions.
@@ -27,6 +29,25 @@ impl Histogram {
             1 => self.permissive[number] += 1,
             _ => {}
         }
+    }
+
+    /// Every number, success in both modes, and every kind of division.
+    pub fn counted(&self) -> Vec<Counted> {
+        let done = usize::from(DONE);
+        let modes = [("strict", self.strict), ("permissive", self.permissive)];
+        let by_mode = modes.map(|(mode, times)| {
+            let did = format!("were {mode} and gave number {done}");
+            (did, times[done])
+        });
+        let kinds = self.divisions.each();
+        let divisions = kinds.flat_map(|(kind, [quotient, remainder])| {
+            [
+                (format!("had a / of {kind}"), quotient),
+                (format!("had a % of {kind}"), remainder),
+            ]
+        });
+        let numbers = counted(&NUMBERS, &self.all);
+        numbers.chain(by_mode).chain(divisions).collect()
     }
 }
 
@@ -74,24 +95,44 @@ impl Compared for Call {
 mod tests {
     use super::*;
     use crate::compare::calls::tests::*;
-    use crate::model::number;
+    use crate::shares::OF_RUNS;
 
     #[test]
     fn the_model_agrees_with_itself_and_the_generator() {
+        let histogram = with_itself::<Call>(10_000);
         let Histogram {
             all,
             strict,
             permissive,
-            divisions,
-        } = with_itself::<Call>(10_000);
+            ..
+        } = histogram;
         let counted = NUMBERS.map(|number| all[number]);
         assert_eq!(counted.iter().sum::<u64>(), 10_000);
         assert!(counted.iter().all(|&times| times > 40), "{all:?}");
-        let done = usize::from(number::DONE);
+        let done = usize::from(DONE);
         assert!(strict[done] > 400 && permissive[done] > 400);
-        for (kind, times) in divisions.each() {
-            assert!(times.iter().all(|&times| times > 20), "{kind}: {times:?}");
-        }
+        let short = OF_RUNS.shortfalls(10_000, histogram.counted());
+        assert_eq!(short, Vec::<String>::new());
+    }
+
+    #[test]
+    fn what_did_not_come_is_named() {
+        let mut histogram = with_itself::<Call>(10_000);
+        histogram.all[16] = 24;
+        histogram.permissive[usize::from(DONE)] = 0;
+        assert_eq!(
+            OF_RUNS.shortfalls(10_000, histogram.counted()),
+            [
+                "of 10000 runs only 24 gave number 16, fewer than 1 of 400",
+                "of 10000 runs only 0 were permissive and gave number 0, fewer than 1 of 400",
+            ]
+        );
+        let nothing = Histogram::default();
+        let none = OF_RUNS.shortfalls(400, nothing.counted());
+        let divisions = 2 * nothing.divisions.each().count();
+        assert_eq!(none.len(), NUMBERS.len() + 2 + divisions);
+        let division = "only 0 had a % of the least by above 0, exact";
+        assert!(none.iter().any(|line| line.contains(division)));
     }
 
     #[test]

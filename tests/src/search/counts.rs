@@ -5,6 +5,7 @@ use crate::generate::pairs::Pair;
 use crate::model::rules::DOCUMENT;
 use crate::model::run::{Mode, Start};
 use crate::model::store::{Marked, Store};
+use crate::shares::Counted;
 
 /// How many pairs, and of those that finished both, how many were of each kind.
 #[derive(Default)]
@@ -48,8 +49,8 @@ const KINDS: [Kind; 16] = [
             withheld(finished, |one, other| one || other) && !starts.iter().any(has_partial)
         },
     ),
-    ("strict", |finished| finished.pair.mode == Mode::Strict),
-    ("permissive", |finished| {
+    ("were strict", |finished| finished.pair.mode == Mode::Strict),
+    ("were permissive", |finished| {
         finished.pair.mode == Mode::Permissive
     }),
     ("differed in closed fields", differ_in_closed_fields),
@@ -151,5 +152,10 @@ impl Counts {
     /// How many pairs were of each kind, by its name.
     pub fn each(&self) -> impl Iterator<Item = (&'static str, u64)> + '_ {
         KINDS.iter().map(|(name, _)| *name).zip(self.times)
+    }
+
+    /// Every kind.
+    pub fn counted(&self) -> impl Iterator<Item = Counted> + '_ {
+        self.each().map(|(name, times)| (name.into(), times))
     }
 }

@@ -151,6 +151,7 @@ mod tests {
     use super::*;
     use crate::compare::calls::Compared;
     use crate::model::Sheet;
+    use crate::shares::OF_PAIRS;
 
     const MODEL: Shop = Shop {
         run: &Call::right,
@@ -181,6 +182,16 @@ mod tests {
         for (name, times) in counts.each() {
             assert!(times > 200, "{name}: {times}");
         }
+    }
+
+    #[test]
+    fn what_did_not_come_is_named() {
+        let short = OF_PAIRS.shortfalls(800, Counts::default().counted());
+        assert_eq!(short.len(), Counts::default().each().count());
+        assert_eq!(
+            short[0],
+            "of 800 pairs only 0 finished both, fewer than 1 of 400"
+        );
     }
 
     #[test]

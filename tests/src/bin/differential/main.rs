@@ -9,19 +9,15 @@ mod self_check;
 use archive::Archive;
 use arguments::{Arguments, Many, Only, USAGE};
 use beltuqash_tests::compare::calls::compare;
-use beltuqash_tests::compare::{hand_out, load, run, Times};
-use beltuqash_tests::model::number::DONE;
+use beltuqash_tests::compare::{counted, hand_out, load, run, Times};
 use beltuqash_tests::search::{search, Counts, Shop};
+use beltuqash_tests::shares::{self, Counted, Share};
 use std::env;
 use std::fmt::Display;
 use std::ops::Range;
 use std::process::ExitCode;
 use std::thread;
 use std::time::Instant;
-
-/// How often each number must come back, each kind of division, of partial fields
-/// asked and of pair come up.
-const LEAST_TIMES: u64 = 1_000;
 
 fn main() -> ExitCode {
     let Some(arguments) = arguments::read(env::args().skip(1)) else {
@@ -73,43 +69,34 @@ fn all_pass(seed: u64, many: Many) -> bool {
 }
 
 fn load_passes(seed: u64, sheets: u64) -> bool {
-    let times = compare_load(seed, 0..sheets);
-    times.is_some_and(|times| often_enough(&load::NUMBERS.map(|number| times[number])))
+    compare_load(seed, 0..sheets).is_some_and(|times| {
+        let counted = counted(&load::NUMBERS, &times);
+        often_enough(shares::OF_SHEETS, sheets, counted)
+    })
 }
 
-/// Every number, success in both modes, and every kind of division.
 fn run_passes(seed: u64, calls: u64) -> bool {
-    compare_run(seed, 0..calls).is_some_and(|times| {
-        let done = usize::from(DONE);
-        let divided = times.divisions.each().flat_map(|(_, times)| times);
-        let divided: Vec<u64> = divided.collect();
-        often_enough(&run::NUMBERS.map(|number| times.all[number]))
-            && often_enough(&[times.strict[done], times.permissive[done]])
-            && often_enough(&divided)
-    })
+    compare_run(seed, 0..calls)
+        .is_some_and(|times| often_enough(shares::OF_RUNS, calls, times.counted()))
 }
 
-/// Every number, and every kind of partial fields asked.
 fn hand_out_passes(seed: u64, calls: u64) -> bool {
-    compare_hand_out(seed, 0..calls).is_some_and(|times| {
-        let asked: Vec<u64> = times.partial_asked.each().map(|(_, times)| times).collect();
-        often_enough(&hand_out::NUMBERS.map(|number| times.all[number])) && often_enough(&asked)
-    })
+    compare_hand_out(seed, 0..calls)
+        .is_some_and(|times| often_enough(shares::OF_HAND_OUTS, calls, times.counted()))
 }
 
 fn search_passes(seed: u64, pairs: u64) -> bool {
-    search_archive(seed, 0..pairs).is_some_and(|counts| {
-        let times: Vec<u64> = counts.each().map(|(_, times)| times).collect();
-        often_enough(&times)
-    })
+    search_archive(seed, 0..pairs)
+        .is_some_and(|counts| often_enough(shares::OF_PAIRS, pairs, counts.counted()))
 }
 
-fn often_enough(times: &[u64]) -> bool {
-    let passed = times.iter().all(|&times| times >= LEAST_TIMES);
-    if !passed {
-        println!("failed: one of these came fewer than {LEAST_TIMES} times");
+/// Prints what came too seldom of so many inputs tried.
+fn often_enough(share: Share, tried: u64, counted: impl IntoIterator<Item = Counted>) -> bool {
+    let shortfalls = share.shortfalls(tried, counted);
+    for shortfall in &shortfalls {
+        println!("failed: {shortfall}");
     }
-    passed
+    shortfalls.is_empty()
 }
 
 /// Hands on what came up with the archive, or prints what was found. A shop that does
