@@ -94,7 +94,58 @@ fn is_not_above(whole: i64, dividend: i64, divisor: i64) -> bool {
     }
 }
 
-/// What the quotient leaves of the dividend; it takes the divisor's sign.
+/// The one number that is a remainder. Rust's `%` takes the dividend's sign and is
+/// otherwise as a remainder is, so the divisor is all that it may be away.
 fn remainder(dividend: i64, divisor: i64) -> i64 {
-    dividend - quotient(dividend, divisor) * divisor
+    let near = dividend % divisor;
+    let mut nearest = [near - divisor, near, near + divisor].into_iter();
+    let remainder = nearest.find(|&rest| is_remainder(rest, dividend, divisor));
+    remainder.expect("one of them has the divisor's sign")
+}
+
+/// Whether a number has the divisor's sign or is 0, is smaller in size than the
+/// divisor, and makes the dividend without it a multiple of the divisor.
+fn is_remainder(rest: i64, dividend: i64, divisor: i64) -> bool {
+    let has_its_sign = rest == 0 || (rest < 0) == (divisor < 0);
+    let is_smaller = rest.abs() < divisor.abs();
+    let leaves_a_multiple = (dividend - rest) % divisor == 0;
+    has_its_sign && is_smaller && leaves_a_multiple
+}
+
+#[cfg(test)]
+mod tests {
+    use super::*;
+
+    /// Both ends, and all that is small.
+    fn some() -> impl Iterator<Item = i64> + Clone {
+        let ends = [LEAST, LEAST + 1, GREATEST - 1, GREATEST];
+        ends.into_iter().chain(-12..=12)
+    }
+
+    fn divisions() -> impl Iterator<Item = (i64, i64)> {
+        let divisors = some().filter(|&divisor| divisor != 0);
+        some().flat_map(move |dividend| divisors.clone().map(move |divisor| (dividend, divisor)))
+    }
+
+    #[test]
+    fn one_number_is_the_remainder() {
+        for (dividend, divisor) in divisions().filter(|(_, divisor)| divisor.abs() <= 12) {
+            let all = (-12..=12).filter(|&rest| is_remainder(rest, dividend, divisor));
+            let all: Vec<i64> = all.collect();
+            assert_eq!(
+                all,
+                [remainder(dividend, divisor)],
+                "{dividend} % {divisor}"
+            );
+        }
+    }
+
+    #[test]
+    fn quotient_and_remainder_make_the_dividend() {
+        for (dividend, divisor) in divisions() {
+            let multiple = quotient(dividend, divisor) * divisor;
+            let made = multiple + remainder(dividend, divisor);
+            assert_eq!(made, dividend, "by {divisor}");
+        }
+    }
 }
