@@ -77,14 +77,7 @@ pub struct Start {
 impl Start {
     /// Row 10, load's rows, 8, 9 and 11, in the order of checks.
     pub fn checked(rules: &Rules, call: &Call) -> Result<Start, Answer> {
-        if !(rules.mode_and_fuel_are_right)(call.mode, call.fuel) {
-            return Err(Answer::plain(MODE_OR_FUEL));
-        }
-        let mode = match call.mode {
-            0 => Mode::Strict,
-            _ => Mode::Permissive,
-        };
-        let sheet = judged(&call.sheet)?;
+        let (mode, sheet) = checked_before_store(rules, call)?;
         if !(rules.store_fits)(&sheet, &call.store) {
             return Err(Answer::plain(STORE_MISFIT));
         }
@@ -119,6 +112,18 @@ impl Start {
             way: run.way,
         }
     }
+}
+
+/// What comes before row 8 in the order of checks: row 10, then load's rows.
+pub fn checked_before_store(rules: &Rules, call: &Call) -> Result<(Mode, Sheet), Answer> {
+    if !(rules.mode_and_fuel_are_right)(call.mode, call.fuel) {
+        return Err(Answer::plain(MODE_OR_FUEL));
+    }
+    let mode = match call.mode {
+        0 => Mode::Strict,
+        _ => Mode::Permissive,
+    };
+    Ok((mode, judged(&call.sheet)?))
 }
 
 /// Where a run has come to: why it stopped, if not at its end.
