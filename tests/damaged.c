@@ -1,10 +1,10 @@
 /* Throws damaged input at the three calls and watches all memory around what is lent.
  *
- * Sheets come from the files that it is given and from others made here. They, their stores and their requests are cut, grown, changed in some bytes or
- * replaced by random ones; outputs are long enough, too short or null. What is lent lies against a page that nobody may touch, at its front or its
- * end, or in a heap block of its own size, so that a read outside ends the program (the heap block: under valgrind). The output lies among guard bytes.
- * After each call: the inputs are unchanged, nothing outside the output is written, a refusal wrote nothing, success wrote the stated size and no more,
- * and the word is one that the call may answer. The order of random numbers is fixed; an argument -n N sets how many rounds. */
+ * Sheets come from the files that it is given and from others made here, up to the longest. They, their stores and their requests are cut, grown, changed
+ * in some bytes or replaced by random ones; outputs are long enough, too short or null. What is lent lies against a page that nobody may touch, at its
+ * front or its end, or in a heap block of its own size, so that a read outside ends the program (the heap block: under valgrind). The output lies among
+ * guard bytes. After each call: the inputs are unchanged, nothing outside the output is written, a refusal wrote nothing, success wrote the stated size and
+ * no more, and the word is one that the call may answer. The order of random numbers is fixed; an argument -n N sets how many rounds. */
 #define _DEFAULT_SOURCE
 #include "beltuqash.h"
 
@@ -265,6 +265,102 @@ static void add_nest(uint8_t depth, unsigned number)
     add_base(&sheet, number);
 }
 
+/* ---- the largest sheet ---- */
+
+enum kind { CONSTANT, FIELD, OPERATOR, NOT, SEAL, SKIP, ASSIGNMENT, SEQUENCE, IF, WHILE };
+
+enum { EQUAL = 5, OPERATORS = 10, COMMANDS = (BELTUQASH_MOST_NODES + 1) / 5 /* of four nodes each, and the sequences between them */ };
+
+static void append_two(struct bytes *to, unsigned number)
+{
+    beltuqash_write_two(to->at + to->length, number);
+    to->length += 2;
+}
+
+/* Sixteen levels, each a set of four things: one is at or below another if it is part of it. */
+static void append_levels(struct bytes *sheet)
+{
+    append_two(sheet, BELTUQASH_MOST_LEVELS);
+    for (unsigned i = 0; i < BELTUQASH_MOST_LEVELS; i++) {
+        unsigned row = 0;
+        for (unsigned j = 0; j < BELTUQASH_MOST_LEVELS; j++)
+            row |= (unsigned)((i & j) == i) << j;
+        append_two(sheet, row);
+    }
+}
+
+/* Fields a0 to h7, and the constants from 0 on. */
+static void append_fields_and_constants(struct bytes *sheet)
+{
+    append_two(sheet, BELTUQASH_MOST_FIELDS);
+    for (unsigned i = 0; i < BELTUQASH_MOST_FIELDS; i++)
+        append(sheet, (const uint8_t[BELTUQASH_NAME_BYTES]){(uint8_t)('a' + i / 8), (uint8_t)('0' + i % 8)}, BELTUQASH_NAME_BYTES);
+    append_two(sheet, BELTUQASH_MOST_CONSTANTS);
+    for (unsigned i = 0; i < BELTUQASH_MOST_CONSTANTS; i++)
+        append(sheet, (const uint8_t[BELTUQASH_CONSTANT_BYTES]){(uint8_t)i}, BELTUQASH_CONSTANT_BYTES);
+}
+
+static unsigned nodes_made;
+
+/* Puts a node behind the others; gives its number. */
+static unsigned add_node(struct bytes *sheet, enum kind kind, unsigned operator, unsigned a, unsigned b, unsigned c)
+{
+    append(sheet, (const uint8_t[]){(uint8_t)kind, (uint8_t)operator}, 2);
+    append_two(sheet, a);
+    append_two(sheet, b);
+    append_two(sheet, c);
+    return nodes_made++;
+}
+
+/* A command of four nodes. The first ones set each field to 0 or 1, so that no later result is out of range; no constant but the first is 0, so that no
+ * divisor is, and every loop ends after a round. */
+static unsigned add_command(struct bytes *sheet, unsigned i)
+{
+    unsigned field = i % BELTUQASH_MOST_FIELDS, read = add_node(sheet, FIELD, 0, field, 0, 0), one, other;
+    int is_first = i < BELTUQASH_MOST_FIELDS;
+    switch (is_first ? 0 : i % 4) {
+    case 0:
+        one = add_node(sheet, CONSTANT, 0, 1 + i, 0, 0);
+        other = add_node(sheet, OPERATOR, is_first ? EQUAL : i / 4 % OPERATORS, read, one, 0);
+        return add_node(sheet, ASSIGNMENT, 0, field, other, 0);
+    case 1:
+        one = add_node(sheet, SEAL, 0, read, 0, 0);
+        other = add_node(sheet, NOT, 0, one, 0, 0);
+        return add_node(sheet, ASSIGNMENT, 0, field, other, 0);
+    case 2:
+        one = add_node(sheet, SKIP, 0, 0, 0, 0);
+        other = add_node(sheet, SKIP, 0, 0, 0, 0);
+        return add_node(sheet, IF, 0, read, one, other);
+    default:
+        one = add_node(sheet, CONSTANT, 0, 0, 0, 0);
+        other = add_node(sheet, ASSIGNMENT, 0, field, one, 0);
+        return add_node(sheet, WHILE, 0, read, other, 0);
+    }
+}
+
+/* So many commands, joined by sequences half to half. */
+static unsigned add_commands(struct bytes *sheet, unsigned first, unsigned count)
+{
+    if (count == 1)
+        return add_command(sheet, first);
+    unsigned one = add_commands(sheet, first, count / 2);
+    unsigned other = add_commands(sheet, first + count / 2, count - count / 2);
+    return add_node(sheet, SEQUENCE, 0, one, other, 0);
+}
+
+/* As many levels, fields, constants and nodes as there may be; all kinds and operators. */
+static void add_largest(void)
+{
+    static struct bytes sheet;
+    append_levels(&sheet);
+    append_fields_and_constants(&sheet);
+    append_two(&sheet, BELTUQASH_MOST_NODES);
+    add_commands(&sheet, 0, COMMANDS);
+    calling = "the largest sheet";
+    demand(nodes_made == BELTUQASH_MOST_NODES && sheet.length == BELTUQASH_LONGEST_SHEET, "another size");
+    add_base(&sheet, BELTUQASH_DONE);
+}
+
 /* q := r / q. */
 static void add_quotient(void)
 {
@@ -278,7 +374,7 @@ static void add_file(const char *path)
     static struct bytes sheet;
     FILE *file = fopen(path, "rb");
     demand(file != NULL, path);
-    sheet.length = fread(sheet.at, 1, ROOM / 2, file);
+    sheet.length = fread(sheet.at, 1, BELTUQASH_LONGEST_SHEET + 1, file);
     demand(!ferror(file), path);
     fclose(file);
     unsigned number = load(&sheet);
@@ -323,7 +419,7 @@ static void damage(struct bytes *bytes)
             bytes->at[bytes->length++] = (uint8_t)below(256);
         break;
     case 2:
-        bytes->length = below(below(8) == 0 ? 4000 : 120);
+        bytes->length = below(below(8) == 0 ? BELTUQASH_LONGEST_SHEET + 1 : 120);
         for (size_t i = 0; i < bytes->length; i++)
             bytes->at[i] = (uint8_t)below(256);
         break;
@@ -349,7 +445,7 @@ static void throw_damaged(void)
     const struct base *base = &bases[below((uint32_t)base_count)];
     sheet = base->sheet;
     uint32_t mode = below(16) == 0 ? below(256) : below(2);
-    uint32_t fuel = below(16) == 0 ? BELTUQASH_MOST_FUEL + below(3) : below(12);
+    uint32_t fuel = below(16) == 0 ? BELTUQASH_MOST_FUEL + below(3) : below(below(4) == 0 ? 400 : 12);
     uint32_t reader = below(8) == 0 ? below(300) : below(base->levels);
     make_store(&store, base, mode == BELTUQASH_PERMISSIVE || below(8) == 0);
     make_request(&request, base);
@@ -407,6 +503,15 @@ static void throw_every_cut(const struct base *base)
         demand(run(&sheet, &store, BELTUQASH_STRICT, 100, length, &final_store) == BELTUQASH_OUT_SHORT, "a short output");
     for (size_t length = 0; length < answer; length++)
         demand(hand_out(&sheet, &store, 0, &request, length) == BELTUQASH_OUT_SHORT, "a short answer");
+}
+
+/* The largest sheet, the last that was added, runs to its end from any store of whole fields. */
+static void run_largest(void)
+{
+    static struct bytes store, final_store;
+    const struct base *largest = &bases[base_count - 1];
+    make_store(&store, largest, 0);
+    demand(run(&largest->sheet, &store, BELTUQASH_STRICT, 400, store.length, &final_store) == BELTUQASH_DONE, "the largest sheet does not run to its end");
 }
 
 /* Nothing lent at all. */
@@ -480,9 +585,11 @@ int main(int argc, char **argv)
     add_quotient();
     add_nest(BELTUQASH_MOST_DEPTH, BELTUQASH_DONE);
     add_nest(BELTUQASH_MOST_DEPTH + 1, BELTUQASH_TOO_DEEP);
+    add_largest();
     check_reasons();
     check_values();
     throw_null();
+    run_largest();
     for (size_t i = 0; i < base_count; i++)
         throw_every_cut(&bases[i]);
     for (unsigned long i = 0; i < rounds; i++)
