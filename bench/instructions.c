@@ -50,13 +50,39 @@ static uint64_t count_load(load_call call, const struct bytes *sheet)
     return stops;
 }
 
-/* Takes nothing but what counting itself takes. */
+static uint64_t count_desk_call(const struct monitor *monitor, enum which which, const struct order *order)
+{
+    stops = 0;
+    set_trap_flag();
+    desk_call(monitor, which, order);
+    clear_trap_flag();
+    return stops;
+}
+
+/* The calls of nobody take nothing but what counting itself takes. */
+
 static uint64_t no_load(const uint8_t *sheet, size_t sheet_len)
 {
-    (void)sheet;
-    (void)sheet_len;
+    (void)sheet, (void)sheet_len;
     return 0;
 }
+
+static uint64_t no_run(const uint8_t *sheet, size_t sheet_len, const uint8_t *store, size_t store_len, uint32_t mode, uint32_t fuel,
+                       uint8_t *out, size_t out_len)
+{
+    (void)sheet, (void)sheet_len, (void)store, (void)store_len, (void)mode, (void)fuel, (void)out, (void)out_len;
+    return 0;
+}
+
+static uint64_t no_hand_out(const uint8_t *sheet, size_t sheet_len, const uint8_t *store, size_t store_len, uint32_t reader,
+                            const uint8_t *request, size_t request_len, uint8_t *answer, size_t answer_len)
+{
+    (void)sheet, (void)sheet_len, (void)store, (void)store_len, (void)reader;
+    (void)request, (void)request_len, (void)answer, (void)answer_len;
+    return 0;
+}
+
+static const struct monitor nobody = {no_load, no_run, no_hand_out};
 
 static double instructions_a_unit(run_call call, const struct job *one, const struct job *longer)
 {
@@ -84,6 +110,17 @@ static void print_load(void)
     print_figure(load_name, (double)(count_load(beltuqash_load, &largest) - nothing), (double)(count_load(c_load, &largest) - nothing));
 }
 
+static void print_order(const struct desk_sheet *sheet)
+{
+    static struct order order;
+    prepare_order(&order, sheet);
+    for (enum which which = LOAD; which < CALLS; which++) {
+        uint64_t nothing = count_desk_call(&nobody, which, &order);
+        uint64_t by_archive = count_desk_call(&archive, which, &order), by_c = count_desk_call(&by_hand, which, &order);
+        print_figure(sheet->names[which], (double)(by_archive - nothing), (double)(by_c - nothing));
+    }
+}
+
 int main(void)
 {
     struct sigaction action = {.sa_handler = count_stop};
@@ -95,5 +132,7 @@ int main(void)
     for (int i = 0; i < WORKLOADS; i++)
         print_run(&workloads[i]);
     print_load();
+    for (int i = 0; i < DESK_SHEETS; i++)
+        print_order(&desk_sheets[i]);
     return EXIT_SUCCESS;
 }

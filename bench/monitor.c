@@ -1,4 +1,5 @@
-/* The monitor by hand in C: load judges a sheet's bytes in place, run works on node numbers by recursion.
+/* The monitor by hand in C: load judges a sheet's bytes in place, run works on node numbers by recursion, hand-out reads
+ * the store where it lies.
  *
  * Joins and meets are found from the order rows. A field's value and mark are kept in one word, so that an expression's
  * result comes back in a register. No heap, and nothing is kept between calls. */
@@ -634,6 +635,18 @@ static unsigned go(struct run *run, unsigned n, unsigned context)
     }
 }
 
+/* The store: numbers 8 and 9. */
+
+static inline bool store_fits(const uint8_t *store, size_t length, unsigned fields)
+{
+    return length == beltuqash_store_length(fields) && beltuqash_count(store) == fields;
+}
+
+static inline bool mark_known(const struct levels *levels, unsigned mark, unsigned marks)
+{
+    return mark < marks && beltuqash_level(mark) < levels->count;
+}
+
 /* Run. */
 
 /* Reads the store's entries; number 9. */
@@ -642,7 +655,7 @@ static bool read_entries(struct run *run, const uint8_t *store, unsigned fields)
     unsigned marks = run->mode == BELTUQASH_STRICT ? BELTUQASH_PARTIAL : MARKS;
     for (unsigned i = 0; i < fields; i++) {
         unsigned mark = beltuqash_mark(store, i);
-        if (mark >= marks || beltuqash_level(mark) >= run->levels.count)
+        if (!mark_known(&run->levels, mark, marks))
             return false;
         run->fields[i] = marked(mark, beltuqash_value(store, i));
     }
@@ -667,13 +680,12 @@ uint64_t c_run(const uint8_t *sheet, size_t sheet_len, const uint8_t *store, siz
     if (refused)
         return refused;
     unsigned fields = read.fields.count;
-    size_t store_size = beltuqash_store_length(fields);
-    if (store_len != store_size || beltuqash_count(store) != fields)
+    if (!store_fits(store, store_len, fields))
         return BELTUQASH_STORE_MISFIT;
     run.mode = mode;
     if (!read_entries(&run, store, fields))
         return BELTUQASH_MARK_WRONG;
-    if (out_len < store_size)
+    if (out_len < store_len)
         return BELTUQASH_OUT_SHORT;
     run.nodes = read.nodes.entries;
     run.constants = read.constants.entries;
@@ -684,4 +696,78 @@ uint64_t c_run(const uint8_t *sheet, size_t sheet_len, const uint8_t *store, siz
     if (!stopped)
         write_store(&run, out, fields);
     return stopped | (uint64_t)(fuel - run.left) << 32;
+}
+
+/* Hand-out. */
+
+static bool marks_known(const struct levels *levels, const uint8_t *store, unsigned fields)
+{
+    for (unsigned i = 0; i < fields; i++)
+        if (!mark_known(levels, beltuqash_mark(store, i), MARKS))
+            return false;
+    return true;
+}
+
+/* The request's size, count and field numbers; number 17. */
+static bool request_right(const uint8_t *request, size_t length, unsigned fields)
+{
+    if (length < BELTUQASH_COUNT_BYTES)
+        return false;
+    unsigned asked = beltuqash_count(request);
+    if (asked > BELTUQASH_MOST_ASKED || length != beltuqash_request_length(asked))
+        return false;
+    for (unsigned i = 0; i < asked; i++)
+        if (beltuqash_asked(request, i) >= fields)
+            return false;
+    return true;
+}
+
+/* The first position that asks for a partial field at or below the reader, or the count if there is none; number 18. */
+static unsigned first_partial(const struct levels *levels, unsigned reader, const uint8_t *store, const uint8_t *request)
+{
+    unsigned asked = beltuqash_count(request), i;
+    for (i = 0; i < asked; i++) {
+        unsigned mark = beltuqash_mark(store, beltuqash_asked(request, i));
+        if (beltuqash_is_partial(mark) && at_or_below(levels, beltuqash_level(mark), reader))
+            break;
+    }
+    return i;
+}
+
+/* No partial field at or below the reader is asked, so a field at or below him is whole. */
+static void write_answer(const struct levels *levels, unsigned reader, const uint8_t *store, const uint8_t *request, uint8_t *answer)
+{
+    unsigned asked = beltuqash_count(request);
+    beltuqash_write_count(answer, asked);
+    for (unsigned i = 0; i < asked; i++) {
+        unsigned field = beltuqash_asked(request, i);
+        bool shown = at_or_below(levels, beltuqash_level(beltuqash_mark(store, field)), reader);
+        uint8_t *entry = answer + beltuqash_answer_length(i);
+        entry[0] = shown;
+        beltuqash_write_four(entry + 1, shown ? beltuqash_value(store, field) : 0);
+    }
+}
+
+uint64_t c_hand_out(const uint8_t *sheet, size_t sheet_len, const uint8_t *store, size_t store_len, uint32_t reader,
+                    const uint8_t *request, size_t request_len, uint8_t *answer, size_t answer_len)
+{
+    struct sheet read;
+    struct levels levels;
+    unsigned refused = judge(sheet, sheet_len, &read, &levels);
+    if (refused)
+        return refused;
+    if (!store_fits(store, store_len, read.fields.count))
+        return BELTUQASH_STORE_MISFIT;
+    if (!marks_known(&levels, store, read.fields.count))
+        return BELTUQASH_MARK_WRONG;
+    if (reader >= levels.count || !request_right(request, request_len, read.fields.count))
+        return BELTUQASH_READER_OR_REQUEST;
+    unsigned asked = beltuqash_count(request);
+    if (answer_len < beltuqash_answer_length(asked))
+        return BELTUQASH_OUT_SHORT;
+    unsigned partial = first_partial(&levels, reader, store, request);
+    if (partial < asked)
+        return BELTUQASH_PARTIAL_ASKED | partial << 8;
+    write_answer(&levels, reader, store, request, answer);
+    return BELTUQASH_DONE;
 }

@@ -4,10 +4,12 @@
 
 #include "beltuqash.h"
 
-/* Both take what the archive's calls take and answer the same word. */
+/* All take what the archive's calls take, answer the same word and write the same bytes. */
 uint64_t c_load(const uint8_t *sheet, size_t sheet_len);
 uint64_t c_run(const uint8_t *sheet, size_t sheet_len, const uint8_t *store, size_t store_len,
                uint32_t mode, uint32_t fuel, uint8_t *out, size_t out_len);
+uint64_t c_hand_out(const uint8_t *sheet, size_t sheet_len, const uint8_t *store, size_t store_len, uint32_t reader,
+                    const uint8_t *request, size_t request_len, uint8_t *answer, size_t answer_len);
 
 enum kind { CONSTANT, FIELD, OPERATOR, NOT, SEAL, SKIP, ASSIGNMENT, SEQUENCE, IF, WHILE, KINDS };
 

@@ -147,12 +147,32 @@ void store_of(const struct draft *draft, struct bytes *store)
         beltuqash_write_field(store->at, i, draft->marks[i], draft->values[i]);
 }
 
-void request_of(const struct draft *draft, struct bytes *request)
+void request_of(const struct draft *draft, unsigned asked, struct bytes *request)
 {
-    request->length = beltuqash_request_length(BELTUQASH_MOST_ASKED);
-    beltuqash_write_count(request->at, BELTUQASH_MOST_ASKED);
-    for (unsigned i = 0; i < BELTUQASH_MOST_ASKED; i++)
+    request->length = beltuqash_request_length(asked);
+    beltuqash_write_count(request->at, asked);
+    for (unsigned i = 0; i < asked; i++)
         beltuqash_write_asked(request->at, i, i % draft->fields);
+}
+
+/* The flag sheet. */
+
+struct flag_nodes draft_flag(struct draft *d, int32_t cost, bool sealed)
+{
+    struct flag_nodes nodes;
+    begin(d, 2, (const uint16_t[]){3, 2});
+    new_field(d, 0, 0);
+    new_field(d, 0, 0);
+    new_field(d, 1, cost);
+    unsigned first = sequence(d, assignment(d, FLAG, constant(d, 0)), assignment(d, Q, constant(d, 0)));
+    nodes.set_flag = assignment(d, FLAG, constant(d, 1));
+    unsigned cheap = operation(d, LESS, field(d, COST), constant(d, 500));
+    unsigned second = if_else(d, cheap, nodes.set_flag, skip(d));
+    unsigned read = sealed ? seal(d, field(d, FLAG)) : field(d, FLAG);
+    nodes.set_q = assignment(d, Q, constant(d, 1));
+    nodes.last_test = if_else(d, operation(d, EQUAL, read, constant(d, 0)), nodes.set_q, skip(d));
+    sequence(d, first, sequence(d, second, nodes.last_test));
+    return nodes;
 }
 
 /* The largest sheet. */

@@ -4,6 +4,8 @@
 
 #include "monitor.h"
 
+#include <stdbool.h>
+
 /* A sheet in the making and its start store. Fields are named f00, f01, .. */
 struct draft {
     uint16_t rows[BELTUQASH_MOST_LEVELS];
@@ -48,8 +50,18 @@ unsigned all_of(struct draft *draft, const unsigned *commands, unsigned count);
 void sheet_of(const struct draft *draft, struct bytes *sheet);
 void store_of(const struct draft *draft, struct bytes *store);
 
-/* A request for as many fields as can be asked, the draft's fields again and again. */
-void request_of(const struct draft *draft, struct bytes *request);
+/* A request for so many fields, the draft's fields again and again. */
+void request_of(const struct draft *draft, unsigned asked, struct bytes *request);
+
+/* The flag sheet: flag := 0; q := 0; if cost < 500 then flag := 1 else skip; if flag = 0 then q := 1 else skip; sealed, its
+ * last test is seal(flag) = 0. Cost is at level 1 of two, the others are at level 0. The nodes come back at which it may stop. */
+enum { FLAG, Q, COST };
+
+struct flag_nodes {
+    unsigned set_flag, last_test, set_q;
+};
+
+struct flag_nodes draft_flag(struct draft *draft, int32_t cost, bool sealed);
 
 /* The largest sheet: 16 levels, 64 fields, 256 constants, 1,024 nodes of all kinds; 9,768 bytes. */
 void draft_largest(struct draft *draft);

@@ -1,10 +1,9 @@
 /* Measures the stack of whole calls: each is made on a painted stack of its own, whose deepest changed byte tells.
  *
  * The sheets are 64 deep in every shape of nesting: commands, expressions, and an expression below a nest of commands.
- * Exit 1 if a call of the archive takes more than the limit. */
+ * Exit 1 if a call of the archive takes more than the limit, or archive and C differ in what they answer or write. */
 #define _GNU_SOURCE
-#include "calls.h"
-#include "sheets.h"
+#include "workloads.h"
 
 #include <stdio.h>
 #include <stdlib.h>
@@ -12,7 +11,8 @@
 #include <sys/mman.h>
 #include <ucontext.h>
 
-enum { STACK_LIMIT = 8192, STACK_SIZE = 65536, GUARD_SIZE = 4096 };
+/* A call that takes more than the whole stack dies of the page below it. */
+enum { STACK_LIMIT = 8192, STACK_SIZE = 2 * STACK_LIMIT, GUARD_SIZE = 4096 };
 
 /* Enough for the way down to the deepest command and some rounds there. The reader is the cube's highest level. */
 enum { FUEL = 200, READER = 15 };
@@ -23,21 +23,9 @@ static void fail(const char *what)
     exit(EXIT_FAILURE);
 }
 
-/* The calls of the archive, or of the monitor by hand, which has no hand-out. */
-
-enum which { LOAD, RUN, HAND_OUT, CALLS };
-
 static const char *const call_names[CALLS] = {"load", "run", "hand-out"};
 
-struct monitor {
-    load_call load;
-    run_call run;
-    hand_out_call hand_out;
-};
-
-static const struct monitor archive = {beltuqash_load, beltuqash_run, beltuqash_hand_out}, by_hand = {c_load, c_run, NULL};
-
-/* A call on a stack of its own. */
+/* A call on a stack of its own, with what it answers and writes. */
 
 struct call {
     enum which which;
@@ -45,6 +33,7 @@ struct call {
     const struct bytes *sheet, *store, *request;
     uint32_t mode;
     uint64_t word;
+    uint8_t final_store[BELTUQASH_LONGEST_STORE], answer[BELTUQASH_LONGEST_ANSWER];
     const uint8_t *base;
 };
 
@@ -64,7 +53,6 @@ static void make_stack(void)
 /* All below this function's frame address counts, so its own few words do too. */
 static void make_call(void)
 {
-    static uint8_t out[BELTUQASH_LONGEST_STORE], answer[BELTUQASH_LONGEST_ANSWER];
     struct call *call = current;
     const struct monitor *monitor = call->monitor;
     const struct bytes *sheet = call->sheet, *store = call->store, *request = call->request;
@@ -74,11 +62,12 @@ static void make_call(void)
         call->word = monitor->load(sheet->at, sheet->length);
         break;
     case RUN:
-        call->word = monitor->run(sheet->at, sheet->length, store->at, store->length, call->mode, FUEL, out, sizeof out);
+        call->word = monitor->run(sheet->at, sheet->length, store->at, store->length, call->mode, FUEL, call->final_store,
+                                  sizeof call->final_store);
         break;
     default:
-        call->word = monitor->hand_out(sheet->at, sheet->length, store->at, store->length, READER, request->at, request->length, answer,
-                                       sizeof answer);
+        call->word = monitor->hand_out(sheet->at, sheet->length, store->at, store->length, READER, request->at, request->length, call->answer,
+                                       sizeof call->answer);
     }
 }
 
@@ -106,6 +95,20 @@ static unsigned stack_of(struct call *call)
     return one < other ? other : one;
 }
 
+/* The other monitor answers the same word and writes the same bytes. */
+static void compare(const struct call *call)
+{
+    struct call other = *call;
+    memset(other.final_store, 0, sizeof other.final_store);
+    memset(other.answer, 0, sizeof other.answer);
+    other.monitor = call->monitor == &archive ? &by_hand : &archive;
+    current = &other;
+    make_call();
+    if (other.word != call->word || memcmp(other.final_store, call->final_store, sizeof other.final_store) != 0 ||
+        memcmp(other.answer, call->answer, sizeof other.answer) != 0)
+        fail("archive and C differ");
+}
+
 /* All calls on a draft. */
 
 struct stacks {
@@ -129,22 +132,22 @@ static void measure_call(struct stacks *stacks, struct call call, enum which whi
     keep_most(stacks, measured);
     if ((numbers >> beltuqash_number(call.word) & 1) == 0)
         fail("a call ends with a number that it should not");
+    compare(&call);
 }
 
-/* The stacks of load, of run in both modes, and of a hand-out of as many fields as can be asked, if the monitor has one. */
+/* The stacks of load, of run in both modes, and of a hand-out of as many fields as can be asked. */
 static struct stacks measure(const struct monitor *monitor, const struct draft *draft, unsigned numbers)
 {
     static struct bytes sheet, store, request;
     sheet_of(draft, &sheet);
     store_of(draft, &store);
-    request_of(draft, &request);
+    request_of(draft, BELTUQASH_MOST_ASKED, &request);
     const struct call call = {.monitor = monitor, .sheet = &sheet, .store = &store, .request = &request};
     struct stacks most = {{0}};
     measure_call(&most, call, LOAD, 0, numbers);
     measure_call(&most, call, RUN, BELTUQASH_STRICT, numbers);
     measure_call(&most, call, RUN, BELTUQASH_PERMISSIVE, numbers);
-    if (monitor->hand_out != NULL)
-        measure_call(&most, call, HAND_OUT, 0, numbers);
+    measure_call(&most, call, HAND_OUT, 0, numbers);
     return most;
 }
 
@@ -329,11 +332,11 @@ static struct stacks measure_largest(const struct monitor *monitor)
 
 /* The tables. */
 
-/* A name and a number for each call that was measured. */
+/* A name and a number for each call. */
 static void print_stacks(const char *name, struct stacks stacks)
 {
     printf("%-22s", name);
-    for (int i = 0; i < CALLS && stacks.of[i] != 0; i++)
+    for (int i = 0; i < CALLS; i++)
         printf(" %8u", stacks.of[i]);
 }
 

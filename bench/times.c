@@ -7,7 +7,7 @@
 #include <time.h>
 
 /* A time is the best of the repetitions, and each repetition times so many calls: tens of milliseconds. */
-enum { REPETITIONS = 21, RUNS = 3, LOADS = 2000 };
+enum { REPETITIONS = 21, RUNS = 3, LOADS = 2000, DESK_CALLS = 20000 };
 
 /* Times, in seconds a call. */
 
@@ -38,6 +38,14 @@ static double time_load(load_call call, const struct bytes *sheet)
     return (now() - start) / LOADS;
 }
 
+static double time_desk_call(const struct monitor *monitor, enum which which, const struct order *order)
+{
+    double start = now();
+    for (int i = 0; i < DESK_CALLS; i++)
+        desk_call(monitor, which, order);
+    return (now() - start) / DESK_CALLS;
+}
+
 /* Keeps the best; the first repetition has nothing to beat. */
 static void keep(double *best, double seconds)
 {
@@ -55,6 +63,20 @@ static void repeat_load(const struct bytes *sheet, struct times *best)
 {
     keep(&best->archive, time_load(beltuqash_load, sheet));
     keep(&best->c, time_load(c_load, sheet));
+}
+
+/* An order, and the times of its calls. */
+struct served {
+    struct order order;
+    struct times of[CALLS];
+};
+
+static void repeat_order(struct served *served)
+{
+    for (enum which which = LOAD; which < CALLS; which++) {
+        keep(&served->of[which].archive, time_desk_call(&archive, which, &served->order));
+        keep(&served->of[which].c, time_desk_call(&by_hand, which, &served->order));
+    }
 }
 
 /* A sheet at fuel f and at 2f, 500,000 and 1,000,000 units. */
@@ -79,9 +101,17 @@ static void print_runs(const struct measured *measured)
     }
 }
 
+static void print_orders(const struct served *served)
+{
+    for (int i = 0; i < DESK_SHEETS; i++)
+        for (enum which which = LOAD; which < CALLS; which++)
+            print_figure(desk_sheets[i].names[which], served[i].of[which].archive, served[i].of[which].c, 1);
+}
+
 int main(void)
 {
     static struct measured measured[WORKLOADS];
+    static struct served served[DESK_SHEETS];
     static struct bytes largest;
     struct times load = {0, 0};
     prepare_load(&largest);
@@ -89,14 +119,19 @@ int main(void)
         prepare_run(&measured[i].f, &workloads[i], BELTUQASH_MOST_FUEL / 2);
         prepare_run(&measured[i].f2, &workloads[i], BELTUQASH_MOST_FUEL);
     }
+    for (int i = 0; i < DESK_SHEETS; i++)
+        prepare_order(&served[i].order, &desk_sheets[i]);
     for (int repetition = 0; repetition < REPETITIONS; repetition++) {
         for (int i = 0; i < WORKLOADS; i++) {
             repeat_run(&measured[i].f, &measured[i].at_f);
             repeat_run(&measured[i].f2, &measured[i].at_f2);
         }
         repeat_load(&largest, &load);
+        for (int i = 0; i < DESK_SHEETS; i++)
+            repeat_order(&served[i]);
     }
     print_runs(measured);
     print_figure(load_name, load.archive, load.c, 1);
+    print_orders(served);
     return EXIT_SUCCESS;
 }

@@ -1,7 +1,6 @@
-/* Document 01's trials, divisions and the faults of nodes, tried on the monitor by hand: a wrong C would be a wrong measure. */
+/* Document 01's trials, divisions, the faults of nodes and hand-outs, tried on the monitor by hand: a wrong C would be a wrong measure. */
 #include "sheets.h"
 
-#include <stdbool.h>
 #include <stdio.h>
 #include <stdlib.h>
 #include <string.h>
@@ -144,60 +143,36 @@ static void try_marks(void)
     expect(is(assign(MARKS, 1, 1, BELTUQASH_PERMISSIVE), BELTUQASH_MARK_WRONG, 0, 0), "a mark above 31: 9");
 }
 
-/* The flag sheet: flag := 0; q := 0; if cost < 500 then flag := 1 else skip; if flag = 0 then q := 1 else skip. */
-
-enum { COST, FLAG, Q };
-
-struct flag_sheet {
-    struct draft draft;
-    unsigned set_flag, last_test, set_q;
-};
-
-static void draft_flag(struct flag_sheet *sheet, int32_t cost, bool sealed)
-{
-    struct draft *d = &sheet->draft;
-    begin(d, 2, two_levels);
-    new_field(d, 1, cost);
-    new_field(d, 0, 0);
-    new_field(d, 0, 0);
-    unsigned first = sequence(d, assignment(d, FLAG, constant(d, 0)), assignment(d, Q, constant(d, 0)));
-    sheet->set_flag = assignment(d, FLAG, constant(d, 1));
-    unsigned cheap = operation(d, LESS, field(d, COST), constant(d, 500));
-    unsigned second = if_else(d, cheap, sheet->set_flag, skip(d));
-    unsigned read = sealed ? seal(d, field(d, FLAG)) : field(d, FLAG);
-    sheet->set_q = assignment(d, Q, constant(d, 1));
-    sheet->last_test = if_else(d, operation(d, EQUAL, read, constant(d, 0)), sheet->set_q, skip(d));
-    sequence(d, first, sequence(d, second, sheet->last_test));
-}
+/* The flag sheet. */
 
 static void try_flag(void)
 {
-    struct flag_sheet s;
-    draft_flag(&s, 600, false);
+    struct draft d;
+    struct flag_nodes nodes = draft_flag(&d, 600, false);
     for (uint32_t mode = BELTUQASH_STRICT; mode <= BELTUQASH_PERMISSIVE; mode++) {
-        struct outcome done = run(&s.draft, mode, 6);
+        struct outcome done = run(&d, mode, 6);
         expect(is(done, BELTUQASH_DONE, 0, 6) && holds(done, Q, 0, 1), "cost 600: q = 1 after 6 units");
-        expect(is(run(&s.draft, mode, 5), BELTUQASH_FUEL_SPENT, s.set_q, 5), "cost 600, fuel 5: 12");
-        expect(beltuqash_number(run(&s.draft, mode, 0).word) == BELTUQASH_FUEL_SPENT, "fuel 0: 12");
-        expect(beltuqash_number(run(&s.draft, mode, BELTUQASH_MOST_FUEL).word) == BELTUQASH_DONE, "fuel 1,000,000 is taken");
-        expect(is(run(&s.draft, mode, BELTUQASH_MOST_FUEL + 1), BELTUQASH_MODE_OR_FUEL, 0, 0), "fuel 1,000,001: 10");
+        expect(is(run(&d, mode, 5), BELTUQASH_FUEL_SPENT, nodes.set_q, 5), "cost 600, fuel 5: 12");
+        expect(beltuqash_number(run(&d, mode, 0).word) == BELTUQASH_FUEL_SPENT, "fuel 0: 12");
+        expect(beltuqash_number(run(&d, mode, BELTUQASH_MOST_FUEL).word) == BELTUQASH_DONE, "fuel 1,000,000 is taken");
+        expect(is(run(&d, mode, BELTUQASH_MOST_FUEL + 1), BELTUQASH_MODE_OR_FUEL, 0, 0), "fuel 1,000,001: 10");
     }
-    draft_flag(&s, 400, false);
-    expect(is(run(&s.draft, BELTUQASH_PERMISSIVE, 9), BELTUQASH_PARTIAL_TEST, s.last_test, 5), "cost 400, permissive: 16 after 5");
-    expect(is(run(&s.draft, BELTUQASH_STRICT, 9), BELTUQASH_NOT_BELOW, s.set_flag, 4), "cost 400, strict: 15 after 4");
-    expect(is(run(&s.draft, 2, 9), BELTUQASH_MODE_OR_FUEL, 0, 0), "mode 2: 10");
+    nodes = draft_flag(&d, 400, false);
+    expect(is(run(&d, BELTUQASH_PERMISSIVE, 9), BELTUQASH_PARTIAL_TEST, nodes.last_test, 5), "cost 400, permissive: 16 after 5");
+    expect(is(run(&d, BELTUQASH_STRICT, 9), BELTUQASH_NOT_BELOW, nodes.set_flag, 4), "cost 400, strict: 15 after 4");
+    expect(is(run(&d, 2, 9), BELTUQASH_MODE_OR_FUEL, 0, 0), "mode 2: 10");
 }
 
 static void try_sealed_flag(void)
 {
-    struct flag_sheet s;
-    draft_flag(&s, 400, true);
-    struct outcome cheap = run(&s.draft, BELTUQASH_PERMISSIVE, 9);
+    struct draft d;
+    draft_flag(&d, 400, true);
+    struct outcome cheap = run(&d, BELTUQASH_PERMISSIVE, 9);
     expect(is(cheap, BELTUQASH_DONE, 0, 6) && holds(cheap, FLAG, beltuqash_partial(0), 1) && holds(cheap, Q, 0, 0), "sealed, cost 400");
-    draft_flag(&s, 600, true);
-    struct outcome dear = run(&s.draft, BELTUQASH_PERMISSIVE, 9);
+    struct flag_nodes nodes = draft_flag(&d, 600, true);
+    struct outcome dear = run(&d, BELTUQASH_PERMISSIVE, 9);
     expect(is(dear, BELTUQASH_DONE, 0, 6) && holds(dear, Q, beltuqash_partial(0), 1), "sealed, cost 600: q partial");
-    expect(is(run(&s.draft, BELTUQASH_STRICT, 9), BELTUQASH_NOT_BELOW, s.set_q, 6), "sealed, cost 600, strict: 15 after 6");
+    expect(is(run(&d, BELTUQASH_STRICT, 9), BELTUQASH_NOT_BELOW, nodes.set_q, 6), "sealed, cost 600, strict: 15 after 6");
 }
 
 /* while x do (x := 0; y := 1); z := 1, with x at level 1: the context is kept in the loop and returns after it. */
@@ -364,6 +339,175 @@ static void try_example(void)
     expect(memcmp(out, right, sizeof out) == 0, "the example: q = 42, later bytes stay");
 }
 
+/* Hand-outs. */
+
+/* What is lent to one. */
+struct hand_out {
+    struct bytes sheet, store, request, answer;
+    uint32_t reader;
+};
+
+/* The reader asks for these fields; the answer's memory is as long as it must be. */
+static void ask(struct hand_out *lent, uint32_t reader, const unsigned *fields, unsigned asked)
+{
+    lent->reader = reader;
+    lent->request.length = beltuqash_request_length(asked);
+    beltuqash_write_count(lent->request.at, asked);
+    for (unsigned i = 0; i < asked; i++)
+        beltuqash_write_asked(lent->request.at, i, fields[i]);
+    lent->answer.length = beltuqash_answer_length(asked);
+}
+
+/* Before each call the answer's bytes are 9. */
+static uint64_t hand_out(struct hand_out *lent)
+{
+    memset(lent->answer.at, 9, sizeof lent->answer.at);
+    return c_hand_out(lent->sheet.at, lent->sheet.length, lent->store.at, lent->store.length, lent->reader, lent->request.at,
+                      lent->request.length, lent->answer.at, lent->answer.length);
+}
+
+static bool shows(const struct hand_out *lent, unsigned position, int32_t value)
+{
+    return beltuqash_shown(lent->answer.at, position) == 1 && beltuqash_shown_value(lent->answer.at, position) == value;
+}
+
+static bool withholds(const struct hand_out *lent, unsigned position)
+{
+    return beltuqash_shown(lent->answer.at, position) == 0 && beltuqash_shown_value(lent->answer.at, position) == 0;
+}
+
+/* Whether all bytes from here on are as they were. */
+static bool stay(const struct hand_out *lent, size_t from)
+{
+    for (size_t i = from; i < sizeof lent->answer.at; i++)
+        if (lent->answer.at[i] != 9)
+            return false;
+    return true;
+}
+
+/* A sheet in the diamond whose store has whole fields at levels 0, 1 and 2 and partial ones at 1 and 2. */
+enum { WHOLE_0, WHOLE_1, WHOLE_2, PARTIAL_1, PARTIAL_2, ASKABLE };
+
+static void lend_diamond(struct hand_out *lent)
+{
+    const unsigned marks[ASKABLE] = {0, 1, 2, beltuqash_partial(1), beltuqash_partial(2)};
+    struct draft d;
+    begin(&d, 4, diamond);
+    for (unsigned i = 0; i < ASKABLE; i++)
+        new_field(&d, marks[i], 50 + (int32_t)i);
+    skip(&d);
+    sheet_of(&d, &lent->sheet);
+    store_of(&d, &lent->store);
+}
+
+static void try_answers(void)
+{
+    static struct hand_out lent;
+    static const unsigned all_but_partial_1[] = {WHOLE_2, WHOLE_0, PARTIAL_2, WHOLE_1, WHOLE_0}, whole_2[] = {WHOLE_2};
+    lend_diamond(&lent);
+    ask(&lent, 1, all_but_partial_1, 5);
+    expect(hand_out(&lent) == BELTUQASH_DONE && beltuqash_count(lent.answer.at) == 5, "five fields are answered");
+    expect(withholds(&lent, 0) && withholds(&lent, 2), "whole and partial fields elsewhere are withheld");
+    expect(shows(&lent, 1, 50) && shows(&lent, 3, 51) && shows(&lent, 4, 50), "whole fields at or below the reader are shown");
+    expect(stay(&lent, beltuqash_answer_length(5)), "bytes after the answer stay");
+    ask(&lent, 3, whole_2, 1);
+    expect(hand_out(&lent) == BELTUQASH_DONE && shows(&lent, 0, 52), "the highest level reads all whole fields");
+    ask(&lent, 0, NULL, 0);
+    expect(hand_out(&lent) == BELTUQASH_DONE && beltuqash_count(lent.answer.at) == 0 && stay(&lent, 2), "an empty request");
+}
+
+static void try_partial_asked(void)
+{
+    static struct hand_out lent;
+    static const unsigned fields[] = {PARTIAL_2, WHOLE_1, PARTIAL_1, PARTIAL_1};
+    lend_diamond(&lent);
+    ask(&lent, 1, fields, 4);
+    expect(at(hand_out(&lent), BELTUQASH_PARTIAL_ASKED, 2) && stay(&lent, 0), "a partial field at the reader: 18 at 2");
+    ask(&lent, 3, fields, 4);
+    expect(at(hand_out(&lent), BELTUQASH_PARTIAL_ASKED, 0), "a partial field below the reader: 18 at 0");
+    ask(&lent, 0, fields, 4);
+    expect(hand_out(&lent) == BELTUQASH_DONE && withholds(&lent, 0) && withholds(&lent, 2), "partial fields above the reader are withheld");
+}
+
+/* The sealed flag sheet's final store at a cost of 600. */
+static void try_sealed_hand_out(void)
+{
+    static struct hand_out lent;
+    struct draft d;
+    draft_flag(&d, 600, true);
+    struct outcome dear = run(&d, BELTUQASH_PERMISSIVE, 9);
+    sheet_of(&d, &lent.sheet);
+    lent.store.length = beltuqash_store_length(d.fields);
+    memcpy(lent.store.at, dear.store, lent.store.length);
+    ask(&lent, 0, (const unsigned[]){FLAG, COST, Q}, 3);
+    expect(at(hand_out(&lent), BELTUQASH_PARTIAL_ASKED, 2), "sealed, cost 600: a request for q gets 18");
+    ask(&lent, 0, (const unsigned[]){FLAG, COST}, 2);
+    expect(hand_out(&lent) == BELTUQASH_DONE && shows(&lent, 0, 0) && withholds(&lent, 1), "sealed, cost 600: flag and cost");
+}
+
+/* A hand-out of the diamond's whole fields to a reader, with one byte of the request or of the store set to a value. */
+static uint64_t hand_out_with(uint32_t reader, bool in_request, size_t byte, uint8_t value)
+{
+    static struct hand_out lent;
+    lend_diamond(&lent);
+    ask(&lent, reader, (const unsigned[]){WHOLE_0, WHOLE_1, WHOLE_2}, 3);
+    (in_request ? &lent.request : &lent.store)->at[byte] = value;
+    return hand_out(&lent);
+}
+
+static void try_hand_out_faults(void)
+{
+    size_t last_mark = beltuqash_store_length(ASKABLE - 1), last_asked = beltuqash_request_length(2);
+    expect(hand_out_with(0, false, 0, ASKABLE) == BELTUQASH_DONE, "the hand-out without a fault");
+    expect(hand_out_with(0, false, 0, ASKABLE + 1) == BELTUQASH_STORE_MISFIT, "hand-out, another count in the store: 8");
+    expect(hand_out_with(0, false, last_mark, 4) == BELTUQASH_MARK_WRONG, "hand-out, an unknown level: 9");
+    expect(hand_out_with(0, false, last_mark, (uint8_t)beltuqash_partial(4)) == BELTUQASH_MARK_WRONG, "hand-out, an unknown partial level: 9");
+    expect(hand_out_with(0, false, last_mark, MARKS) == BELTUQASH_MARK_WRONG, "hand-out, a mark above 31: 9");
+    expect(hand_out_with(4, false, 0, ASKABLE) == BELTUQASH_READER_OR_REQUEST, "an unknown reader: 17");
+    expect(hand_out_with(UINT32_MAX, false, 0, ASKABLE) == BELTUQASH_READER_OR_REQUEST, "the greatest reader: 17");
+    expect(hand_out_with(0, true, 0, 2) == BELTUQASH_READER_OR_REQUEST, "another count in the request: 17");
+    expect(hand_out_with(0, true, last_asked, ASKABLE) == BELTUQASH_READER_OR_REQUEST, "a field that the sheet has not: 17");
+}
+
+/* So many fields asked, all of them field 0. */
+static uint64_t hand_out_many(unsigned asked)
+{
+    static struct hand_out lent;
+    const unsigned fields[BELTUQASH_MOST_ASKED + 1] = {WHOLE_0};
+    lend_diamond(&lent);
+    ask(&lent, 0, fields, asked);
+    return hand_out(&lent);
+}
+
+/* Sheet, store, mark, request and answer have a fault each, and a partial field is asked; they are put right one after another. */
+static void try_order_of_hand_out(void)
+{
+    static struct hand_out lent;
+    lend_diamond(&lent);
+    ask(&lent, 1, (const unsigned[]){WHOLE_0, PARTIAL_1}, 2);
+    uint8_t *mark = lent.store.at + beltuqash_store_length(0);
+    lent.sheet.length--;
+    lent.store.length--;
+    *mark = MARKS;
+    lent.request.length--;
+    lent.answer.length--;
+    expect(hand_out(&lent) == BELTUQASH_SHEET_LENGTH, "load's numbers before 8");
+    lent.sheet.length++;
+    expect(hand_out(&lent) == BELTUQASH_STORE_MISFIT, "8 before 9");
+    lent.store.length++;
+    expect(hand_out(&lent) == BELTUQASH_MARK_WRONG, "9 before 17");
+    *mark = WHOLE_0;
+    expect(hand_out(&lent) == BELTUQASH_READER_OR_REQUEST, "17 before 11");
+    lent.request.length++;
+    expect(hand_out(&lent) == BELTUQASH_OUT_SHORT, "11 before 18");
+    lent.answer.length++;
+    expect(at(hand_out(&lent), BELTUQASH_PARTIAL_ASKED, 1) && stay(&lent, 0), "18 comes last, and nothing is written");
+    lent.request.length = 1;
+    expect(hand_out(&lent) == BELTUQASH_READER_OR_REQUEST, "a request without its count: 17");
+    expect(hand_out_many(BELTUQASH_MOST_ASKED) == BELTUQASH_DONE, "64 fields are answered");
+    expect(hand_out_many(BELTUQASH_MOST_ASKED + 1) == BELTUQASH_READER_OR_REQUEST, "65 fields asked: 17");
+}
+
 int main(void)
 {
     try_arithmetic();
@@ -378,6 +522,11 @@ int main(void)
     try_nodes();
     try_order_of_faults();
     try_example();
+    try_answers();
+    try_partial_asked();
+    try_sealed_hand_out();
+    try_hand_out_faults();
+    try_order_of_hand_out();
     if (wrong == 0)
         printf("monitor.c does what its trials say\n");
     return wrong == 0 ? EXIT_SUCCESS : EXIT_FAILURE;
