@@ -7,21 +7,21 @@ use mathlib.Core.List.{List, [], ◌∷◌, ◌++◌}
 use Rattle.basis.specs.Numbers as numbers
 use Rattle.basis.specs.declared.answer.Answer.{Answer}
 use Rattle.basis.specs.Answer.{success, refusal, Outcome}
-use Rattle.basis.specs.Checks.{Check, allHold, tells, checked}
+use Rattle.basis.specs.Checks.{Check, all_hold, tells, checked}
 use Rattle.basis.proofs.Tests.{split}
 
 -- the first check holds, or is told
 module _ (c : Check) (rest : List Check) where
-  pub first_holds : c.holds ≡ true → (allHold (c ∷ rest) ≡ allHold rest) × (tells (c ∷ rest) ≡ tells rest)
-  unfolding allHold tells
+  pub first_holds : c.holds ≡ true → (all_hold (c ∷ rest) ≡ all_hold rest) × (tells (c ∷ rest) ≡ tells rest)
+  unfolding all_hold tells
   first_holds h = rw h (refl, refl)
 
-  pub first-fails : c.holds ≡ false → (allHold (c ∷ rest) ≡ false) × (tells (c ∷ rest) ≡ refusal c.number c.place)
-  unfolding allHold tells
+  pub first-fails : c.holds ≡ false → (all_hold (c ∷ rest) ≡ false) × (tells (c ∷ rest) ≡ refusal c.number c.place)
+  unfolding all_hold tells
   first-fails h = rw h (refl, refl)
 
 -- success is told of checks that all hold
-pub tells-success : (checks : List Check) → allHold checks ≡ true → tells checks ≡ success 0
+pub tells-success : (checks : List Check) → all_hold checks ≡ true → tells checks ≡ success 0
 unfolding tells
 tells-success [] h = refl
 tells-success (c ∷ rest) h =
@@ -33,7 +33,7 @@ tells-success (c ∷ rest) h =
 
 module _ (after : List Check) where
   -- where all of the first hold, the second decides
-  pub append-holds : (checks : List Check) → allHold checks ≡ true → (allHold (checks ++ after) ≡ allHold after) × (tells (checks ++ after) ≡ tells after)
+  pub append-holds : (checks : List Check) → all_hold checks ≡ true → (all_hold (checks ++ after) ≡ all_hold after) × (tells (checks ++ after) ≡ tells after)
   append-holds [] h = (refl, refl)
   append-holds (c ∷ rest) h =
       split c.holds
@@ -44,8 +44,8 @@ module _ (after : List Check) where
       (λ f. absurd (true≢false (sym h ∙ (first-fails c rest f).0)))
 
   -- else the first of them that does not hold is told
-  pub append-fails : (checks : List Check) → allHold checks ≡ false → (allHold (checks ++ after) ≡ false) × (tells (checks ++ after) ≡ tells checks)
-  unfolding allHold
+  pub append-fails : (checks : List Check) → all_hold checks ≡ false → (all_hold (checks ++ after) ≡ false) × (tells (checks ++ after) ≡ tells checks)
+  unfolding all_hold
   append-fails [] h = absurd (true≢false h)
   append-fails (c ∷ rest) h =
       split c.holds
@@ -57,9 +57,9 @@ module _ (after : List Check) where
       (λ f. let (fails, told) = first-fails c (rest ++ after) f in (fails, told ∙ sym (first-fails c rest f).1))
 
   -- all of both hold where all of the first do, and all of the second
-  pub append-all : (checks : List Check) → allHold (checks ++ after) ≡ true → (allHold checks ≡ true) × (allHold after ≡ true)
+  pub append-all : (checks : List Check) → all_hold (checks ++ after) ≡ true → (all_hold checks ≡ true) × (all_hold after ≡ true)
   append-all checks h =
-      split (allHold checks)
+      split (all_hold checks)
       (λ t. (t, sym (append-holds checks t).0 ∙ h))
       (λ f. absurd (true≢false (sym h ∙ (append-fails checks f).0)))
 
@@ -71,12 +71,12 @@ pub data Each (Q : Answer → Type 0) : List Check → Type 0 where
   no_more : Each Q []
   ◌also◌ : {c : Check} {rest : List Check} → (c.holds ≡ false → Q (refusal c.number c.place)) → Each Q rest → Each Q (c ∷ rest)
 
-pub tells-one : (Q : Answer → Type 0) (checks : List Check) → Each Q checks → allHold checks ≡ false → Q (tells checks)
-unfolding allHold
-tells-one Q [] no_more h = absurd (true≢false h)
-tells-one Q (c ∷ rest) (q also each) h =
+pub tells_one : (Q : Answer → Type 0) (checks : List Check) → Each Q checks → all_hold checks ≡ false → Q (tells checks)
+unfolding all_hold
+tells_one Q [] no_more h = absurd (true≢false h)
+tells_one Q (c ∷ rest) (q also each) h =
     split c.holds
-    (λ t. let (hold, told) = first_holds c rest t in rw told (tells-one Q rest each (sym hold ∙ h)))
+    (λ t. let (hold, told) = first_holds c rest t in rw told (tells_one Q rest each (sym hold ∙ h)))
     (λ f. rw (first-fails c rest f).1 (q f))
 
 -- no check of the list tells number 0: so all hold if the number is 0
@@ -84,27 +84,27 @@ abbrev pub Numbered : List Check → Type 0
 Numbered checks = Each (λ a. a.number ≡ numbers.done → ⊥) checks
 
 module _ (checks : List Check) where
-  pub all_hold : Numbered checks → (tells checks).number ≡ numbers.done → allHold checks ≡ true
-  all_hold numbered e = split (allHold checks) (λ t. t) (λ f. absurd (tells-one (λ a. a.number ≡ numbers.done → ⊥) checks numbered f e))
+  pub all_hold_lem : Numbered checks → (tells checks).number ≡ numbers.done → all_hold checks ≡ true
+  all_hold_lem numbered e = split (all_hold checks) (λ t. t) (λ f. absurd (tells_one (λ a. a.number ≡ numbers.done → ⊥) checks numbered f e))
 
-  pub some-fails : ((tells checks).number ≡ numbers.done → ⊥) → allHold checks ≡ false
-  some-fails n = split (allHold checks) (λ t. absurd (n (ap (λ (a : Answer). a.number) (tells-success checks t)))) (λ f. f)
+  pub some-fails : ((tells checks).number ≡ numbers.done → ⊥) → all_hold checks ≡ false
+  some-fails n = split (all_hold checks) (λ t. absurd (n (ap (λ (a : Answer). a.number) (tells-success checks t)))) (λ f. f)
 
   -- ── a call ────────────────────────────────────────────────────────────────────────────────
 
   module _ (out : List ℕ) (next : Outcome) where
-    pub goes_on : allHold checks ≡ true → checked checks out next ≡ next
+    pub goes_on : all_hold checks ≡ true → checked checks out next ≡ next
     unfolding checked
     goes_on h = rw h
 
     -- A refusal writes nothing.
-    pub refuses : allHold checks ≡ false → checked checks out next ≡ record { answer = tells checks; out = out }
+    pub refuses : all_hold checks ≡ false → checked checks out next ≡ record { answer = tells checks; out = out }
     unfolding checked
     refuses h = rw h
 
     -- number 0 comes only past all checks
-    pub past-checks : Numbered checks → (checked checks out next).answer.number ≡ numbers.done → (allHold checks ≡ true) × (checked checks out next ≡ next)
-    past-checks numbered e =
-        split (allHold checks)
+    pub past_checks : Numbered checks → (checked checks out next).answer.number ≡ numbers.done → (all_hold checks ≡ true) × (checked checks out next ≡ next)
+    past_checks numbered e =
+        split (all_hold checks)
         (λ t. (t, goes_on t))
-        (λ f. absurd (tells-one (λ a. a.number ≡ numbers.done → ⊥) checks numbered f (rw (refuses f) at e)))
+        (λ f. absurd (tells_one (λ a. a.number ≡ numbers.done → ⊥) checks numbered f (rw (refuses f) at e)))

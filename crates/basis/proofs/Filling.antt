@@ -22,20 +22,20 @@ module _ (count : ℕ) where
   abbrev pub headed : List ℕ → List ℕ
   headed z = set (set z 0 count) 1 0
 
-  pub headed-length : (z : List ℕ) → length (headed z) ≡ length z
-  headed-length z = length-set (set z 0 count) 1 0 ∙ length-set z 0 count
+  pub headed_length : (z : List ℕ) → length (headed z) ≡ length z
+  headed_length z = length-set (set z 0 count) 1 0 ∙ length-set z 0 count
 
   rest : (at : ℕ) (z : List ℕ) → 2 ≤ at → drop at (headed z) ≡ drop at z
   rest at z h = drop-set-lt at (set z 0 count) 1 0 (omega arith) ∙ drop-set-lt at z 0 count (omega arith)
 
-  pub fill-first : (z : List ℕ) → 2 ≤ length z → headed z ≡ filled [] 2 (headed z)
-  fill-first z h = put_all [] z (count ∷ 0 ∷ []) 0 refl h ∙ ap (λ (l : List ℕ). count ∷ 0 ∷ l) (sym (rest 2 z (omega arith)))
+  pub fill_first : (z : List ℕ) → 2 ≤ length z → headed z ≡ filled [] 2 (headed z)
+  fill_first z h = put_all [] z (count ∷ 0 ∷ []) 0 refl h ∙ ap (λ (l : List ℕ). count ∷ 0 ∷ l) (sym (rest 2 z (omega arith)))
 
-  pub fill-next : (entries entry : List ℕ) (at next : ℕ) (z : List ℕ) → 2 + length entries ≡ at → at + length entry ≡ next → next ≤ length z
+  pub fill_next : (entries entry : List ℕ) (at next : ℕ) (z : List ℕ) → 2 + length entries ≡ at → at + length entry ≡ next → next ≤ length z
       → sets (filled entries at z) at entry ≡ filled (entries ++ entry) next z
-  fill-next entries entry at next z here there h =
+  fill_next entries entry at next z here there h =
       put_all (count ∷ 0 ∷ entries) z entry at (omega arith) (omega arith)
       ∙ ap (λ (k : ℕ). (count ∷ 0 ∷ (entries ++ entry)) ++ drop k z) there
 
-  pub fill-last : (entries : List ℕ) (at : ℕ) (z : List ℕ) → 2 ≤ at → filled entries at (headed z) ≡ (count ∷ 0 ∷ entries) ++ drop at z
-  fill-last entries at z h = ap (λ (l : List ℕ). (count ∷ 0 ∷ entries) ++ l) (rest at z h)
+  pub fill_last : (entries : List ℕ) (at : ℕ) (z : List ℕ) → 2 ≤ at → filled entries at (headed z) ≡ (count ∷ 0 ∷ entries) ++ drop at z
+  fill_last entries at z h = ap (λ (l : List ℕ). (count ∷ 0 ∷ entries) ++ l) (rest at z h)

@@ -11,23 +11,23 @@ pub both : (a b : Bool) → (a && b) ≡ true → (a ≡ true) × (b ≡ true)
 both true b h = (refl, h)
 both false b h = absurd (true≢false (sym h))
 
-pub and-of : {a b : Bool} → a ≡ true → b ≡ true → (a && b) ≡ true
-and-of h k = rw (h, k)
+pub and_of_lem : {a b : Bool} → a ≡ true → b ≡ true → (a && b) ≡ true
+and_of_lem h k = rw (h, k)
 
 pub apply : (a b : Bool) → (a ⇒ b) ≡ true → a ≡ true → b ≡ true
 apply true b h k = h
 apply false b h k = absurd (true≢false (sym k))
 
-pub implies-of : (a b : Bool) → (a ≡ true → b ≡ true) → (a ⇒ b) ≡ true
-implies-of true b f = f refl
-implies-of false b f = refl
+pub implies_of : (a b : Bool) → (a ≡ true → b ≡ true) → (a ⇒ b) ≡ true
+implies_of true b f = f refl
+implies_of false b f = refl
 
 -- from two facts
-pub apply-both : (a b c : Bool) → (a && b ⇒ c) ≡ true → a ≡ true → b ≡ true → c ≡ true
-apply-both a b c h p q = apply (a && b) c h (and-of p q)
+pub apply_both : (a b c : Bool) → (a && b ⇒ c) ≡ true → a ≡ true → b ≡ true → c ≡ true
+apply_both a b c h p q = apply (a && b) c h (and_of_lem p q)
 
-pub implies-both : (a b c : Bool) → (a ≡ true → b ≡ true → c ≡ true) → (a && b ⇒ c) ≡ true
-implies-both a b c f = implies-of (a && b) c (λ h. f (both a b h).0 (both a b h).1)
+pub implies_both : (a b c : Bool) → (a ≡ true → b ≡ true → c ≡ true) → (a && b ⇒ c) ≡ true
+implies_both a b c f = implies_of (a && b) c (λ h. f (both a b h).0 (both a b h).1)
 
 pub is_false : (a : Bool) → (a ≡ true → ⊥) → a ≡ false
 is_false true f = absurd (f refl)
@@ -84,25 +84,25 @@ iff false false f g = refl
 
 -- ── a loop that tests every number below n ──────────────────────────────────────────────────
 
-pub and-false : (a b : Bool) → b ≡ false → (a && b) ≡ false
-and-false true b e = e
-and-false false b e = refl
+pub and_false : (a b : Bool) → b ≡ false → (a && b) ≡ false
+and_false true b e = e
+and_false false b e = refl
 
 module _ (P : ℕ → Bool) where
   pub all_none : all 0 P ≡ true
   unfolding all
   all_none = refl
 
-  pub all-suc : (i : ℕ) → all (i + 1) P ≡ (all i P && P i)
+  pub all_suc : (i : ℕ) → all (i + 1) P ≡ (all i P && P i)
   unfolding all
-  all-suc i = rw (add-one i) (split (P i) (λ e. rw (e, all) (sym (and-true _))) (λ e. rw (e, all) (sym (and-false (all i P) false refl))))
+  all_suc i = rw (add-one i) (split (P i) (λ e. rw (e, all) (sym (and-true _))) (λ e. rw (e, all) (sym (and_false (all i P) false refl))))
 
   pub all_three : all 3 P ≡ (P 0 && P 1 && P 2)
-  all_three = rw (all-suc 2, all-suc 1, all-suc 0, all_none)
+  all_three = rw (all_suc 2, all_suc 1, all_suc 0, all_none)
 
   -- what passes below i and at i passes below i + 1
   pub all_more : (i : ℕ) → all i P ≡ true → P i ≡ true → all (i + 1) P ≡ true
-  all_more i below here = all-suc i ∙ and-of below here
+  all_more i below here = all_suc i ∙ and_of_lem below here
 
   -- a loop that passed i of n numbers and is not below n passed all
   pub all_done : (n i : ℕ) → n ≤ i → all i P ≡ true → all n P ≡ true
@@ -123,8 +123,8 @@ all_same n P Q f =
 pub all_both : (n : ℕ) (P Q : ℕ → Bool) → all n (λ i. P i && Q i) ≡ (all n P && all n Q)
 all_both n P Q =
     iff (all n (λ i. P i && Q i)) (all n P && all n Q)
-    (λ h. and-of (all_of n P (λ i l. (both (P i) (Q i) (all-at n _ h i l)).0)) (all_of n Q (λ i l. (both (P i) (Q i) (all-at n _ h i l)).1)))
-    (λ h. let each = both (all n P) (all n Q) h in all_of n _ (λ i l. and-of (all-at n P each.0 i l) (all-at n Q each.1 i l)))
+    (λ h. and_of_lem (all_of n P (λ i l. (both (P i) (Q i) (all-at n _ h i l)).0)) (all_of n Q (λ i l. (both (P i) (Q i) (all-at n _ h i l)).1)))
+    (λ h. let each = both (all n P) (all n Q) h in all_of n _ (λ i l. and_of_lem (all-at n P each.0 i l) (all-at n Q each.1 i l)))
 
 -- ── a loop that looks for the first number that passes ──────────────────────────────────────
 

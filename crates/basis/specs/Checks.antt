@@ -11,9 +11,9 @@ pub record Check : Type 0 where
 abbrev pub check : Bool → ℕ → ℕ → Check
 check holds number place = record { holds = holds; number = number; place = place }
 
-unfoldable pub allHold : List Check → Bool
-allHold [] = true
-allHold (c ∷ rest) = c.holds && allHold rest
+unfoldable pub all_hold : List Check → Bool
+all_hold [] = true
+all_hold (c ∷ rest) = c.holds && all_hold rest
 
 -- in order of checks: the first that does not hold is told
 unfoldable pub tells : List Check → Answer
@@ -22,4 +22,4 @@ tells (c ∷ rest) = cond c.holds (tells rest) (refusal c.number c.place)
 
 -- A refusal writes nothing. Where all checks hold, what comes after them is done.
 unfoldable pub checked : List Check → List ℕ → Outcome → Outcome
-checked checks out next = cond (allHold checks) next (record { answer = tells checks; out = out })
+checked checks out next = cond (all_hold checks) next (record { answer = tells checks; out = out })

@@ -7,85 +7,85 @@ abbrev pub done : ℕ
 done = 0
 
 -- sheet ends too soon or has bytes left
-abbrev pub sheetLength : ℕ
-sheetLength = 1
+abbrev pub sheet_length : ℕ
+sheet_length = 1
 
 -- a count outside its limits
-abbrev pub countOutside : ℕ
-countOutside = 2
+abbrev pub count_outside : ℕ
+count_outside = 2
 
 -- levels not as they must be
-abbrev pub levelsWrong : ℕ
-levelsWrong = 3
+abbrev pub levels_wrong : ℕ
+levels_wrong = 3
 
 -- a bad or repeated name
-abbrev pub nameWrong : ℕ
-nameWrong = 4
+abbrev pub name_wrong : ℕ
+name_wrong = 4
 
 -- a node not used once, or the last not a command
-abbrev pub notUsedOnce : ℕ
-notUsedOnce = 6
+abbrev pub not_used_once : ℕ
+not_used_once = 6
 
 -- depth over 64
-abbrev pub tooDeep : ℕ
-tooDeep = 7
+abbrev pub too_deep : ℕ
+too_deep = 7
 
 -- store length or count doesn't fit the sheet
-abbrev pub storeMisfit : ℕ
-storeMisfit = 8
+abbrev pub store_misfit : ℕ
+store_misfit = 8
 
 -- a mark above 31 or its level unknown; in a strict run also a partial mark
-abbrev pub markWrong : ℕ
-markWrong = 9
+abbrev pub mark_wrong : ℕ
+mark_wrong = 9
 
 -- mode not 0 (strict) or 1 (permissive), or fuel over 1,000,000
-abbrev pub modeOrFuel : ℕ
-modeOrFuel = 10
+abbrev pub mode_or_fuel : ℕ
+mode_or_fuel = 10
 
 -- output shorter than the store or answer
-abbrev pub outShort : ℕ
-outShort = 11
+abbrev pub out_short : ℕ
+out_short = 11
 
 -- fuel used up
-abbrev pub fuelSpent : ℕ
-fuelSpent = 12
+abbrev pub fuel_spent : ℕ
+fuel_spent = 12
 
 -- result out of range
-abbrev pub outOfRange : ℕ
-outOfRange = 13
+abbrev pub out_of_range : ℕ
+out_of_range = 13
 
 -- divisor 0
-abbrev pub divisorZero : ℕ
-divisorZero = 14
+abbrev pub divisor_zero : ℕ
+divisor_zero = 14
 
 -- strict: context not at or below the field's level
-abbrev pub notBelow : ℕ
-notBelow = 15
+abbrev pub not_below : ℕ
+not_below = 15
 
 -- permissive: partial test
-abbrev pub partialTest : ℕ
-partialTest = 16
+abbrev pub partial_test : ℕ
+partial_test = 16
 
 -- hand-out: reader unknown, request's size, count or a field number wrong
-abbrev pub readerOrRequest : ℕ
-readerOrRequest = 17
+abbrev pub reader_or_request : ℕ
+reader_or_request = 17
 
 -- hand-out: partial field at or below the reader asked
-abbrev pub partialAsked : ℕ
-partialAsked = 18
+abbrev pub partial_asked : ℕ
+partial_asked = 18
 
 -- unknown kind or operator
-abbrev pub nodeUnknown : ℕ
-nodeUnknown = 19
+abbrev pub node_unknown : ℕ
+node_unknown = 19
 
 -- unused place, or operator byte in a kind without one, not 0
-abbrev pub nodeUnused : ℕ
-nodeUnused = 20
+abbrev pub node_unused : ℕ
+node_unused = 20
 
 -- child or index number out of range or not lower
-abbrev pub nodeRange : ℕ
-nodeRange = 21
+abbrev pub node_range : ℕ
+node_range = 21
 
 -- child of the wrong sort
-abbrev pub nodeSort : ℕ
-nodeSort = 22
+abbrev pub node_sort : ℕ
+node_sort = 22

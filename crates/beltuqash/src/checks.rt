@@ -3,7 +3,7 @@ ghost use Rattle.std.specs.Prelude.{◌≡◌, ◌++◌};
 ghost use Rattle.basis.specs.Checks.{tells};
 ghost use Rattle.store.specs.Marks.{mode_of};
 ghost use Rattle.sheet.specs.Inside.Loaded.{Loaded};
-ghost use Rattle.beltuqash.specs.Calls.{load, sheetChecks, storeChecks, runChecks, handOutChecks, requestChecks};
+ghost use Rattle.beltuqash.specs.Calls.{load, sheet_checks, store_checks, run_checks, hand_out_checks, request_checks};
 ghost use Rattle.beltuqash.specs.Inside.Given.{Taken};
 
 use basis::answer::{Answer, refusal, success};
@@ -25,7 +25,7 @@ pub fn judge_sheet(sheet: &[u8]) -> Answer
 // A store, beside a sheet that passes: 8 and 9.
 fn judge_store(sheet: &[u8], store: &[u8], mode: u32) -> Answer
     requires { Loaded sheet.now }
-    ensures { result ≡ tells (storeChecks sheet.now store.now (mode_of mode)) }
+    ensures { result ≡ tells (store_checks sheet.now store.now (mode_of mode)) }
 {
     let fields = sections::fields(sheet).len() / 8;
     if !store::fits(store, fields) {
@@ -39,7 +39,7 @@ fn judge_store(sheet: &[u8], store: &[u8], mode: u32) -> Answer
 
 // A sheet and a store.
 fn judge_both(sheet: &[u8], store: &[u8], mode: u32) -> Answer
-    ensures { result ≡ tells (sheetChecks sheet.now ++ storeChecks sheet.now store.now (mode_of mode)) }
+    ensures { result ≡ tells (sheet_checks sheet.now ++ store_checks sheet.now store.now (mode_of mode)) }
 {
     let verdict = judge_sheet(sheet);
     if verdict.number != numbers::DONE {
@@ -50,7 +50,7 @@ fn judge_both(sheet: &[u8], store: &[u8], mode: u32) -> Answer
 
 // A run, whose output has so much room.
 pub fn judge_run(sheet: &[u8], store: &[u8], mode: u32, fuel: u32, room: usize) -> Answer
-    ensures { result ≡ tells (runChecks sheet.now store.now mode fuel room) }
+    ensures { result ≡ tells (run_checks sheet.now store.now mode fuel room) }
 {
     if (1 < mode) | (1000000 < fuel) {
         return refusal(numbers::MODE_OR_FUEL, 0);
@@ -73,7 +73,7 @@ pub fn judge_hand_out(
     request: &[u8],
     room: usize,
 ) -> Answer
-    ensures { result ≡ tells (handOutChecks sheet.now store.now reader request.now room) }
+    ensures { result ≡ tells (hand_out_checks sheet.now store.now reader request.now room) }
 {
     let refused = judge_both(sheet, store, PERMISSIVE);
     if refused.number != numbers::DONE {
@@ -85,7 +85,7 @@ pub fn judge_hand_out(
 // A request, of a store that a hand-out takes: 17, 11 and 18.
 fn judge_request(sheet: &[u8], store: &[u8], reader: u32, request: &[u8], room: usize) -> Answer
     requires { Taken sheet.now store.now (mode_of 1) }
-    ensures { result ≡ tells (requestChecks sheet.now store.now reader request.now room) }
+    ensures { result ≡ tells (request_checks sheet.now store.now reader request.now room) }
 {
     let rows = sections::levels(sheet);
     let known = (reader as usize) < rows.len() / 2;

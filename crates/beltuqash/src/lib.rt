@@ -4,7 +4,7 @@ pub mod checks;
 pub mod runs;
 
 ghost use Rattle.std.specs.Prelude.{◌≡◌};
-ghost use Rattle.beltuqash.specs.Calls.{load, run, handOut, Tells, Yields};
+ghost use Rattle.beltuqash.specs.Calls.{load, run, hand_out, Tells, Yields};
 
 use basis::answer::{pack, success};
 use basis::numbers::DONE;
@@ -46,7 +46,7 @@ pub extern "C" fn beltuqash_hand_out(
     request: &[u8],
     out: &mut [u8],
 ) -> u64
-    ensures yields { Yields (handOut sheet.now store.now reader request.now out.old) result out.new }
+    ensures yields { Yields (hand_out sheet.now store.now reader request.now out.old) result out.new }
     ensures sheet_value { (sheet.now ≡ sheet.now) × (store.now ≡ store.now) × (request.now ≡ request.now) }
 {
     let refused = checks::judge_hand_out(sheet, store, reader, request, out.len());

@@ -1,7 +1,7 @@
 // A run once all checks have passed.
 ghost use Rattle.std.specs.Prelude.{◌≡◌, ℕ, ◌≤◌, List, length};
-ghost use Rattle.marks.specs.Inside.Words.{leftIn};
-ghost use Rattle.flow.specs.Inside.Tasks.{stopOf, Told};
+ghost use Rattle.marks.specs.Inside.Words.{left_in};
+ghost use Rattle.flow.specs.Inside.Tasks.{stop_of, Told};
 ghost use Rattle.beltuqash.specs.Calls.{ended, run_from};
 ghost use Rattle.beltuqash.specs.Inside.Given.{Given, Comes};
 
@@ -35,8 +35,8 @@ pub fn run_from(sheet: &[u8], store: &[u8], mode: u32, fuel: u32, out: &mut [u8]
 
 // What a run that stops comes to.
 fn stopped(word: u64, fuel: u32) -> Answer
-    requires { Told word × (leftIn word ≤ fuel) }
-    ensures { (fields : ℕ) (out : List ℕ) → result ≡ (ended fields fuel out (stopOf word)).answer }
+    requires { Told word × (left_in word ≤ fuel) }
+    ensures { (fields : ℕ) (out : List ℕ) → result ≡ (ended fields fuel out (stop_of word)).answer }
 {
     let units = fuel - words::left_in(word);
     Answer {

@@ -10,19 +10,19 @@ use lib.ListN.{length, get_or, set, length-set}
 use lib.Seq.{get_or-set_same, get_or-set_other}
 use Rattle.basis.proofs.Tests.{split}
 use Rattle.value.specs.declared.Value.{Value}
-use Rattle.nodes.specs.Nodes.{kind_at, slot_at, kinds, heldIn}
-use Rattle.sheet.specs.Trees.{Exp, Cmd, assign, expAt, cmdAt}
-use Rattle.sheet.proofs.Trees.{held-there, cmdAt-assign}
+use Rattle.nodes.specs.Nodes.{kind_at, slot_at, kinds, held_in}
+use Rattle.sheet.specs.Trees.{Exp, Cmd, assign, exp_at, cmd_at}
+use Rattle.sheet.proofs.Trees.{held_there, cmd_at-assign}
 use Rattle.rules.specs.Ends.{Why, gives, stops, End, done, stopped, at, and_then, with, spend}
 use Rattle.rules.specs.Rules.{Marking, put, eval, updated, exec}
 use Rattle.store.specs.Cells.{Cell, cell, Store}
-use Rattle.rules.proofs.Units.{assign-law}
-use Rattle.marks.specs.Inside.Parts.{constantsIn, nodesIn}
-use Rattle.marks.specs.Inside.Words.{valueIn, markIn, cellIn, workAt, workOf, Word, Goes, Stops, runIn, contextIn}
+use Rattle.rules.proofs.Units.{assign_law}
+use Rattle.marks.specs.Inside.Parts.{constants_in, nodes_in}
+use Rattle.marks.specs.Inside.Words.{value_in, mark_in, cell_in, work_at, work_of, Word, Goes, Stops, run_in, context_in}
 use Rattle.marks.specs.Inside.Meanings.{Meaning, Stored}
-use Rattle.flow.specs.Inside.Tasks.{meaningIn, Ready, ExpIn, Evaluated, CmdIn, Assigned}
+use Rattle.flow.specs.Inside.Tasks.{meaning_in, Ready, ExpIn, Evaluated, CmdIn, Assigned}
 use Rattle.marks.proofs.Results.{goes_number, answer-gives, answer-stops}
-use Rattle.flow.proofs.Ends.{or-next, or-stopped}
+use Rattle.flow.proofs.Ends.{or_next, or_stopped}
 
 -- ── the cases of an assignment ──────────────────────────────────────────────────────────────
 
@@ -42,31 +42,31 @@ module _ {Mark Seen Context : Type 0} (𝓜 : Marking Mark Seen Context) (place 
 
     assign-stops : (why : Why) (there : ℕ) → eval 𝓜 b σ ≡ stops why there → ends ≡ stopped why there left
     unfolding spend with
-    assign-stops why there e = assign-law 𝓜 place i b context σ (suc left) ∙ rw e
+    assign-stops why there e = assign_law 𝓜 place i b context σ (suc left) ∙ rw e
 
     module _ (x : Cell Seen) (value : eval 𝓜 b σ ≡ gives x) where
       assign-refused : (why : Why) (there : ℕ) → updated 𝓜 place context (σ i) x ≡ stops why there → ends ≡ stopped why there left
       unfolding spend with
-      assign-refused why there e = assign-law 𝓜 place i b context σ (suc left) ∙ rw (value, e)
+      assign-refused why there e = assign_law 𝓜 place i b context σ (suc left) ∙ rw (value, e)
 
       assign-done : (k : Cell Mark) → updated 𝓜 place context (σ i) x ≡ gives k → ends ≡ done (put i k σ) left
       unfolding spend with
-      assign-done k e = assign-law 𝓜 place i b context σ (suc left) ∙ rw (value, e)
+      assign-done k e = assign_law 𝓜 place i b context σ (suc left) ∙ rw (value, e)
 
 -- ── a field's new word ──────────────────────────────────────────────────────────────────────
 
 module _ {Mark : Type 0} (of : ℕ → Mark) (work : List ℕ) (i word : ℕ) (inside : i < length work) where
-  work-at-set : (j : ℕ) → workOf of (set work i word) j ≡ put i (cellIn of word) (workOf of work) j
-  unfolding workAt put
-  work-at-set j = split (eqb i j)
-      (λ e. let here : j ≡ i = sym (eqb-true i j e) in rw e (ap (cellIn of) (rw here (get_or-set_same work i word 0 inside))))
-      (λ e. rw e (ap (cellIn of) (get_or-set_other work i j word 0 (λ here. eqb-false i j e (sym here)))))
+  work_at_set : (j : ℕ) → work_of of (set work i word) j ≡ put i (cell_in of word) (work_of of work) j
+  unfolding work_at put
+  work_at_set j = split (eqb i j)
+      (λ e. let here : j ≡ i = sym (eqb-true i j e) in rw e (ap (cell_in of) (rw here (get_or-set_same work i word 0 inside))))
+      (λ e. rw e (ap (cell_in of) (get_or-set_other work i j word 0 (λ here. eqb-false i j e (sym here)))))
 
-  work-set : workOf of (set work i word) ≡ put i (cellIn of word) (workOf of work)
-  work-set = fun_ext work-at-set
+  work_set : work_of of (set work i word) ≡ put i (cell_in of word) (work_of of work)
+  work_set = fun_ext work_at_set
 
 -- a word with a known mark leaves the work store ready
-ready-set : {parts : List (List ℕ)} {work : List ℕ} {run i : ℕ} (word : ℕ) → Ready parts work run → i < 64 → (meaningIn parts run).KnownMark (markIn word)
+ready-set : {parts : List (List ℕ)} {work : List ℕ} {run i : ℕ} (word : ℕ) → Ready parts work run → i < 64 → (meaning_in parts run).KnownMark (mark_in word)
     → Ready parts (set work i word) run
 ready-set {parts} {work} {run} {i} word p inside known = record {
   askable = p.askable;
@@ -78,84 +78,84 @@ ready-set {parts} {work} {run} {i} word p inside known = record {
   words = λ j. at_field j (ℕ_discrete j i);
 }
   where
-    at_field : (j : ℕ) → Dec (j ≡ i) → (meaningIn parts run).KnownMark (markIn (get_or (set work i word) j 0))
+    at_field : (j : ℕ) → Dec (j ≡ i) → (meaning_in parts run).KnownMark (mark_in (get_or (set work i word) j 0))
     at_field j (yes e) = rw (e, get_or-set_same work i word 0 (rw p.long inside)) known
     at_field j (no e) = rw (get_or-set_other work i j word 0 e) (p.words j)
 
 -- ── the assignment at a node ────────────────────────────────────────────────────────────────
 
-module _ {parts : List (List ℕ)} {work : List ℕ} {n task : ℕ} (p : CmdIn parts work n task) (kind : kind_at (nodesIn parts) n ≡ 6) where
+module _ {parts : List (List ℕ)} {work : List ℕ} {n task : ℕ} (p : CmdIn parts work n task) (kind : kind_at (nodes_in parts) n ≡ 6) where
   abbrev 𝓢 : Meaning
-  𝓢 = meaningIn parts (runIn task)
+  𝓢 = meaning_in parts (run_in task)
 
   abbrev field : ℕ
-  field = slot_at (nodesIn parts) n 0
+  field = slot_at (nodes_in parts) n 0
 
   abbrev source : ℕ
-  source = slot_at (nodesIn parts) n 1
+  source = slot_at (nodes_in parts) n 1
 
   -- the field is there, and the expression is worked out on the same work store
-  field-there : field < p.ready.fields
-  unfolding heldIn kinds
-  field-there = held-there p.ready.formed n p.inside 6 0 kind (omega arith)
+  field_there : field < p.ready.fields
+  unfolding held_in kinds
+  field_there = held_there p.ready.formed n p.inside 6 0 kind (omega arith)
 
   pub field-few : field < 64
   field-few =
-      let there = field-there in
+      let there = field_there in
       let few = p.ready.few-fields in
       omega arith
 
-  pub field-known : 𝓢.KnownMark (markIn (get_or work field 0))
+  pub field-known : 𝓢.KnownMark (mark_in (get_or work field 0))
   field-known = p.ready.words field
 
-  pub source_in : ExpIn parts work (runIn task) source
-  unfolding heldIn kinds
+  pub source_in : ExpIn parts work (run_in task) source
+  unfolding held_in kinds
   source_in =
-      let below = held-there p.ready.formed n p.inside 6 1 kind (omega arith) in
+      let below = held_there p.ready.formed n p.inside 6 1 kind (omega arith) in
       let lower : source < n = below.lower in
       let inside = p.inside in
       record { ready = p.ready; inside = omega arith; sort = below.sort }
 
-  at-node : (fuel : ℕ) → exec 𝓢.marking (cmdAt (constantsIn parts) (nodesIn parts) n) (𝓢.context_of (contextIn task)) (workOf 𝓢.mark_of work) fuel
-      ≡ exec 𝓢.marking (assign n field (expAt (constantsIn parts) (nodesIn parts) source)) (𝓢.context_of (contextIn task)) (workOf 𝓢.mark_of work) fuel
+  at-node : (fuel : ℕ) → exec 𝓢.marking (cmd_at (constants_in parts) (nodes_in parts) n) (𝓢.context_of (context_in task)) (work_of 𝓢.mark_of work) fuel
+      ≡ exec 𝓢.marking (assign n field (exp_at (constants_in parts) (nodes_in parts) source)) (𝓢.context_of (context_in task)) (work_of 𝓢.mark_of work) fuel
   at-node fuel =
-      ap (λ (k : Cmd). exec 𝓢.marking k (𝓢.context_of (contextIn task)) (workOf 𝓢.mark_of work) fuel)
-      (cmdAt-assign (constantsIn parts) p.ready.formed n p.inside kind)
+      ap (λ (k : Cmd). exec 𝓢.marking k (𝓢.context_of (context_in task)) (work_of 𝓢.mark_of work) fuel)
+      (cmd_at-assign (constants_in parts) p.ready.formed n p.inside kind)
 
-  module _ {x : ℕ} (evaluated : Evaluated parts work (runIn task) source x) where
+  module _ {x : ℕ} (evaluated : Evaluated parts work (run_in task) source x) where
     -- the expression stops
-    pub assigned-stops : Stops x → Assigned parts work n task work x
-    assigned-stops large = record {
-      is = λ left. or-stopped x left _ large ∙ sym (at-node (suc left) ∙ assign-stops 𝓢.marking _ _ _ _ _ left _ _ (answer-stops evaluated large));
+    pub assigned_stops : Stops x → Assigned parts work n task work x
+    assigned_stops large = record {
+      is = λ left. or_stopped x left _ large ∙ sym (at-node (suc left) ∙ assign-stops 𝓢.marking _ _ _ _ _ left _ _ (answer-stops evaluated large));
       ready = p.ready;
       number = evaluated.number;
     }
 
-    module _ (goes : Goes x) {k : ℕ} (stored : Stored 𝓢 n (contextIn task) (markIn (get_or work field 0)) (markIn x) k) where
+    module _ (goes : Goes x) {k : ℕ} (stored : Stored 𝓢 n (context_in task) (mark_in (get_or work field 0)) (mark_in x) k) where
       -- the mark is refused
-      pub assigned-refused : Stops k → Assigned parts work n task work k
-      unfolding workAt
-      assigned-refused large =
-          let update = updated-stops 𝓢.marking n (𝓢.context_of (contextIn task)) (valueIn (get_or work field 0)) (valueIn x) _ _ _ _ (answer-stops stored large) in
+      pub assigned_refused : Stops k → Assigned parts work n task work k
+      unfolding work_at
+      assigned_refused large =
+          let update = updated-stops 𝓢.marking n (𝓢.context_of (context_in task)) (value_in (get_or work field 0)) (value_in x) _ _ _ _ (answer-stops stored large) in
           record {
-            is = λ left. or-stopped k left _ large
-                ∙ sym (at-node (suc left) ∙ assign-refused 𝓢.marking _ _ field _ (workOf 𝓢.mark_of work) left _ (answer-gives evaluated goes) _ _ update);
+            is = λ left. or_stopped k left _ large
+                ∙ sym (at-node (suc left) ∙ assign-refused 𝓢.marking _ _ field _ (work_of 𝓢.mark_of work) left _ (answer-gives evaluated goes) _ _ update);
             ready = p.ready;
             number = stored.number;
           }
 
       -- the field has its new word
-      pub assigned-done : Goes k → {word : ℕ} → Word (valueIn x) k word → Assigned parts work n task (set work field word) 0
-      unfolding workAt
-      assigned-done fine {word} made =
+      pub assigned_done : Goes k → {word : ℕ} → Word (value_in x) k word → Assigned parts work n task (set work field word) 0
+      unfolding work_at
+      assigned_done fine {word} made =
           let inside : field < length work = rw p.ready.long field-few in
-          let update = updated-gives 𝓢.marking n (𝓢.context_of (contextIn task)) (valueIn (get_or work field 0)) (valueIn x) _ _ _ (answer-gives stored fine) in
-          let new : cellIn 𝓢.mark_of word ≡ cell (valueIn x) (𝓢.mark_of k) = ap₂ cell made.value (ap 𝓢.mark_of made.mark-is) in
+          let update = updated-gives 𝓢.marking n (𝓢.context_of (context_in task)) (value_in (get_or work field 0)) (value_in x) _ _ _ (answer-gives stored fine) in
+          let new : cell_in 𝓢.mark_of word ≡ cell (value_in x) (𝓢.mark_of k) = ap₂ cell made.value (ap 𝓢.mark_of made.mark-is) in
           record {
-            is = λ left. or-next 0 left _ (omega arith)
+            is = λ left. or_next 0 left _ (omega arith)
                 ∙ ap (λ (τ : Store 𝓢.Mark). done τ left)
-                (work-set 𝓢.mark_of work field word inside ∙ ap (λ (c : Cell 𝓢.Mark). put field c (workOf 𝓢.mark_of work)) new)
-                ∙ sym (at-node (suc left) ∙ assign-done 𝓢.marking _ _ field _ (workOf 𝓢.mark_of work) left _ (answer-gives evaluated goes) _ update);
+                (work_set 𝓢.mark_of work field word inside ∙ ap (λ (c : Cell 𝓢.Mark). put field c (work_of 𝓢.mark_of work)) new)
+                ∙ sym (at-node (suc left) ∙ assign-done 𝓢.marking _ _ field _ (work_of 𝓢.mark_of work) left _ (answer-gives evaluated goes) _ update);
             ready = ready-set word p.ready field-few (rw made.mark-is (stored.known fine).0);
             number = goes_number 0 (omega arith);
           }

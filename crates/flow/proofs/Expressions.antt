@@ -6,35 +6,35 @@ use mathlib.Core.List.{List}
 use lib.IntN.{ℤ}
 use lib.ListN.{get_or}
 use Rattle.basis.specs.Numbers as numbers
-use Rattle.value.specs.Values.{operatorOf, notOf}
+use Rattle.value.specs.Values.{operator_of, not_of}
 use Rattle.value.specs.declared.Value.{Value}
 use Rattle.value.specs.declared.Computed.TheVariants.{Is, OutOfRange, DivisorZero}
-use Rattle.nodes.specs.Nodes.{In, kind_at, opAt, slot_at, kinds, heldIn}
+use Rattle.nodes.specs.Nodes.{In, kind_at, op_at, slot_at, kinds, held_in}
 use Rattle.nodes.specs.Inside.Formed.{ExpBelow, WellFormed}
-use Rattle.sheet.specs.Trees.{constantAt, expAt}
-use Rattle.sheet.proofs.Trees.{held-there, expAt-constant, expAt-field, expAt-operator, expAt-not, expAt-seal}
-use Rattle.rules.specs.Ends.{Why, outOfRange, divisorZero, Result, gives, stops, at, and_then}
+use Rattle.sheet.specs.Trees.{constant_at, exp_at}
+use Rattle.sheet.proofs.Trees.{held_there, exp_at-constant, exp_at-field, exp_at-operator, exp_at-not, exp_at-seal}
+use Rattle.rules.specs.Ends.{Why, out_of_range, divisor_zero, Result, gives, stops, at, and_then}
 use Rattle.rules.specs.Rules.{Marking, computed, reading, operated, inverted, sealing, eval}
 use Rattle.store.specs.Cells.{Cell, cell, Store}
-use Rattle.marks.specs.Inside.Parts.{constantsIn, nodesIn}
-use Rattle.marks.specs.Inside.Words.{valueIn, markIn, cellIn, workAt, workOf, Word, Goes, Stops, whyOf, Stop}
+use Rattle.marks.specs.Inside.Parts.{constants_in, nodes_in}
+use Rattle.marks.specs.Inside.Words.{value_in, mark_in, cell_in, work_at, work_of, Word, Goes, Stops, why_of, Stop}
 use Rattle.marks.specs.Inside.Meanings.{Meaning, Sees, Constant, Sealed, Read, Joined}
-use Rattle.flow.specs.Inside.Tasks.{meaningIn, ExpIn, Evaluated, Operated}
-use Rattle.marks.proofs.Results.{answers-gives, answers-stops, answer-gives, hands_on}
+use Rattle.flow.specs.Inside.Tasks.{meaning_in, ExpIn, Evaluated, Operated}
+use Rattle.marks.proofs.Results.{answers_gives, answers_stops, answer-gives, hands_on}
 
 -- an operator on two values: a value with the joined mark, or a stop at its node
 module _ {Mark Seen Context : Type 0} (𝓜 : Marking Mark Seen Context) (place op : ℕ) (v w : Value) (m k : Seen) where
-  operated-is : (u : Value) → operatorOf op v w ≡ Is u → operated 𝓜 place op (cell v m) (cell w k) ≡ gives (cell u (𝓜.join m k))
+  operated-is : (u : Value) → operator_of op v w ≡ Is u → operated 𝓜 place op (cell v m) (cell w k) ≡ gives (cell u (𝓜.join m k))
   unfolding operated at and_then computed
   operated-is u e = rw e
 
-  operated-range : (z : ℤ) → operatorOf op v w ≡ OutOfRange z → operated 𝓜 place op (cell v m) (cell w k) ≡ stops outOfRange place
+  operated_range : (z : ℤ) → operator_of op v w ≡ OutOfRange z → operated 𝓜 place op (cell v m) (cell w k) ≡ stops out_of_range place
   unfolding operated at and_then computed
-  operated-range z e = rw e
+  operated_range z e = rw e
 
-  operated-zero : operatorOf op v w ≡ DivisorZero → operated 𝓜 place op (cell v m) (cell w k) ≡ stops divisorZero place
+  operated_zero : operator_of op v w ≡ DivisorZero → operated 𝓜 place op (cell v m) (cell w k) ≡ stops divisor_zero place
   unfolding operated at and_then computed
-  operated-zero e = rw e
+  operated_zero e = rw e
 
 -- ── the expression at a node ────────────────────────────────────────────────────────────────
 
@@ -50,27 +50,27 @@ three (suc (suc (suc (suc (suc k))))) P g h x y z = absurd (omega arith)
 module _ {Mark Seen Context : Type 0} (𝓜 : Marking Mark Seen Context) (values : List ℕ) {s : List ℕ} {fields constants : ℕ} (nodes : WellFormed s fields constants)
     (n : ℕ) (i : In s n) (σ : Store Mark) where
   abbrev given : ℕ → Result (Cell Seen)
-  given w = eval 𝓜 (expAt values s w) σ
+  given w = eval 𝓜 (exp_at values s w) σ
 
-  pub eval-constant : kind_at s n ≡ 0 → given n ≡ gives (cell (constantAt values (slot_at s n 0)) 𝓜.constant)
+  pub eval-constant : kind_at s n ≡ 0 → given n ≡ gives (cell (constant_at values (slot_at s n 0)) 𝓜.constant)
   unfolding eval
-  eval-constant h = rw (expAt-constant values nodes n i h)
+  eval-constant h = rw (exp_at-constant values nodes n i h)
 
   pub eval-field : kind_at s n ≡ 1 → given n ≡ gives (reading 𝓜 (slot_at s n 0) (σ (slot_at s n 0)))
   unfolding eval
-  eval-field h = rw (expAt-field values nodes n i h)
+  eval-field h = rw (exp_at-field values nodes n i h)
 
-  eval-operator : kind_at s n ≡ 2 → given n ≡ and_then (given (slot_at s n 0)) (λ x. and_then (given (slot_at s n 1)) (operated 𝓜 n (opAt s n) x))
+  eval-operator : kind_at s n ≡ 2 → given n ≡ and_then (given (slot_at s n 0)) (λ x. and_then (given (slot_at s n 1)) (operated 𝓜 n (op_at s n) x))
   unfolding eval
-  eval-operator h = rw (expAt-operator values nodes n i h)
+  eval-operator h = rw (exp_at-operator values nodes n i h)
 
   eval_not : kind_at s n ≡ 3 → given n ≡ and_then (given (slot_at s n 0)) (λ x. gives (inverted 𝓜 x))
   unfolding eval
-  eval_not h = rw (expAt-not values nodes n i h)
+  eval_not h = rw (exp_at-not values nodes n i h)
 
   eval-seal : kind_at s n ≡ 4 → given n ≡ and_then (given (slot_at s n 0)) (λ x. gives (sealing 𝓜 x))
   unfolding eval
-  eval-seal h = rw (expAt-seal values nodes n i h)
+  eval-seal h = rw (exp_at-seal values nodes n i h)
 
   -- the first stop met is the one told
   pub left-stops : (why : Why) (place : ℕ) → 2 ≤ kind_at s n → kind_at s n ≤ 4 → given (slot_at s n 0) ≡ stops why place → given n ≡ stops why place
@@ -80,7 +80,7 @@ module _ {Mark Seen Context : Type 0} (𝓜 : Marking Mark Seen Context) (values
       (λ k. eval-operator k ∙ rw e) (λ k. eval_not k ∙ rw e) (λ k. eval-seal k ∙ rw e)
 
   module _ (v : Value) (m : Seen) (left : given (slot_at s n 0) ≡ gives (cell v m)) where
-    pub not_gives : kind_at s n ≡ 3 → given n ≡ gives (cell (notOf v) m)
+    pub not_gives : kind_at s n ≡ 3 → given n ≡ gives (cell (not_of v) m)
     unfolding and_then inverted
     not_gives h = eval_not h ∙ rw left
 
@@ -92,32 +92,32 @@ module _ {Mark Seen Context : Type 0} (𝓜 : Marking Mark Seen Context) (values
     unfolding and_then
     right-stops why place h e = eval-operator h ∙ rw (left, e)
 
-    pub both-give : (w : Value) (k : Seen) → kind_at s n ≡ 2 → given (slot_at s n 1) ≡ gives (cell w k) → given n ≡ operated 𝓜 n (opAt s n) (cell v m) (cell w k)
+    pub both_give : (w : Value) (k : Seen) → kind_at s n ≡ 2 → given (slot_at s n 1) ≡ gives (cell w k) → given n ≡ operated 𝓜 n (op_at s n) (cell v m) (cell w k)
     unfolding and_then
-    both-give w k h e = eval-operator h ∙ rw (left, e)
+    both_give w k h e = eval-operator h ∙ rw (left, e)
 
 -- ── children ────────────────────────────────────────────────────────────────────────────────
 
 -- a field that a node names is there
-pub held-field : {s : List ℕ} {fields constants : ℕ} → WellFormed s fields constants → (n : ℕ) → In s n → kind_at s n ≡ 1 → slot_at s n 0 < fields
-unfolding heldIn kinds
-held-field nodes n i k = held-there nodes n i 1 0 k (omega arith)
+pub held_field : {s : List ℕ} {fields constants : ℕ} → WellFormed s fields constants → (n : ℕ) → In s n → kind_at s n ≡ 1 → slot_at s n 0 < fields
+unfolding held_in kinds
+held_field nodes n i k = held_there nodes n i 1 0 k (omega arith)
 
 -- the left child, and the right one of an operator, are lower expressions
 pub left_below : {s : List ℕ} {fields constants : ℕ} → WellFormed s fields constants → (n : ℕ) → In s n → 2 ≤ kind_at s n → kind_at s n ≤ 4 → ExpBelow s n (slot_at s n 0)
-unfolding heldIn kinds
+unfolding held_in kinds
 left_below {s} nodes n i g h =
     three (kind_at s n) (λ k. ExpBelow s n (slot_at s n 0)) g h
-    (λ k. held-there nodes n i 2 0 k (omega arith)) (λ k. held-there nodes n i 3 0 k (omega arith)) (λ k. held-there nodes n i 4 0 k (omega arith))
+    (λ k. held_there nodes n i 2 0 k (omega arith)) (λ k. held_there nodes n i 3 0 k (omega arith)) (λ k. held_there nodes n i 4 0 k (omega arith))
 
 pub right-below : {s : List ℕ} {fields constants : ℕ} → WellFormed s fields constants → (n : ℕ) → In s n → kind_at s n ≡ 2 → ExpBelow s n (slot_at s n 1)
-unfolding heldIn kinds
-right-below nodes n i k = held-there nodes n i 2 1 k (omega arith)
+unfolding held_in kinds
+right-below nodes n i k = held_there nodes n i 2 1 k (omega arith)
 
 -- a lower expression is worked out on the same store
-pub child-in : {parts : List (List ℕ)} {work : List ℕ} {run n w : ℕ} → ExpIn parts work run n → ExpBelow (nodesIn parts) n w
+pub child_in_lem : {parts : List (List ℕ)} {work : List ℕ} {run n w : ℕ} → ExpIn parts work run n → ExpBelow (nodes_in parts) n w
     → (w < n) × ExpIn parts work run w
-child-in p below =
+child_in_lem p below =
     let inside = p.inside in
     let lower = below.lower in
     (lower, record { ready = p.ready; inside = omega arith; sort = below.sort })
@@ -126,104 +126,104 @@ child-in p below =
 
 -- a word made of a value and the number of a seen mark
 module _ (𝓢 : Meaning) {v : Value} {s : 𝓢.Seen} {mark r : ℕ} (made : Word v mark r) (sees : Sees 𝓢 s mark) where
-  seen-goes : Goes r
-  seen-goes = omega (arith, made.mark-is, sees.few)
+  seen_goes : Goes r
+  seen_goes = omega (arith, made.mark-is, sees.few)
 
-  seen-cell : cell v s ≡ cellIn 𝓢.seenOf r
-  seen-cell = sym (ap₂ cell made.value (ap 𝓢.seenOf made.mark-is ∙ sees.is))
+  seen-cell : cell v s ≡ cell_in 𝓢.seen_of r
+  seen-cell = sym (ap₂ cell made.value (ap 𝓢.seen_of made.mark-is ∙ sees.is))
 
-  seen-known : 𝓢.KnownSeen (markIn r)
+  seen-known : 𝓢.KnownSeen (mark_in r)
   seen-known = rw made.mark-is sees.known
 
 -- an operator's word, on the values in two words
 module _ (parts : List (List ℕ)) (run n left right : ℕ) where
   abbrev 𝓞 : Meaning
-  𝓞 = meaningIn parts run
+  𝓞 = meaning_in parts run
 
   abbrev op : ℕ
-  op = opAt (nodesIn parts) n
+  op = op_at (nodes_in parts) n
 
   abbrev seen : ℕ → 𝓞.Seen
-  seen w = 𝓞.seenOf (markIn w)
+  seen w = 𝓞.seen_of (mark_in w)
 
-  pub operated-word : {u : Value} {mark r : ℕ} → operatorOf op (valueIn left) (valueIn right) ≡ Is u → Joined 𝓞 (markIn left) (markIn right) mark → Word u mark r
+  pub operated_word : {u : Value} {mark r : ℕ} → operator_of op (value_in left) (value_in right) ≡ Is u → Joined 𝓞 (mark_in left) (mark_in right) mark → Word u mark r
       → Operated parts run n left right r
-  operated-word {u} {mark} {r} e sees made =
-      answers-gives (seen-goes 𝓞 made sees)
-      (operated-is 𝓞.marking n op (valueIn left) (valueIn right) (seen left) (seen right) u e ∙ ap gives (seen-cell 𝓞 made sees)) (seen-known 𝓞 made sees)
+  operated_word {u} {mark} {r} e sees made =
+      answers_gives (seen_goes 𝓞 made sees)
+      (operated-is 𝓞.marking n op (value_in left) (value_in right) (seen left) (seen right) u e ∙ ap gives (seen-cell 𝓞 made sees)) (seen-known 𝓞 made sees)
 
-  pub range-word : {z : ℤ} {l r : ℕ} → operatorOf op (valueIn left) (valueIn right) ≡ OutOfRange z → Stop numbers.outOfRange n l r → Operated parts run n left right r
-  unfolding whyOf
-  range-word {z} {l} {r} e s =
-      answers-stops s (omega arith, omega arith) (operated-range 𝓞.marking n op (valueIn left) (valueIn right) (seen left) (seen right) z e)
+  pub range_word : {z : ℤ} {l r : ℕ} → operator_of op (value_in left) (value_in right) ≡ OutOfRange z → Stop numbers.out_of_range n l r → Operated parts run n left right r
+  unfolding why_of
+  range_word {z} {l} {r} e s =
+      answers_stops s (omega arith, omega arith) (operated_range 𝓞.marking n op (value_in left) (value_in right) (seen left) (seen right) z e)
 
-  pub zero_word : {l r : ℕ} → operatorOf op (valueIn left) (valueIn right) ≡ DivisorZero → Stop numbers.divisorZero n l r → Operated parts run n left right r
-  unfolding whyOf
+  pub zero_word : {l r : ℕ} → operator_of op (value_in left) (value_in right) ≡ DivisorZero → Stop numbers.divisor_zero n l r → Operated parts run n left right r
+  unfolding why_of
   zero_word {l} {r} e s =
-      answers-stops s (omega arith, omega arith) (operated-zero 𝓞.marking n op (valueIn left) (valueIn right) (seen left) (seen right) e)
+      answers_stops s (omega arith, omega arith) (operated_zero 𝓞.marking n op (value_in left) (value_in right) (seen left) (seen right) e)
 
 module _ {parts : List (List ℕ)} {work : List ℕ} {run n : ℕ} (p : ExpIn parts work run n) where
   abbrev 𝓢 : Meaning
-  𝓢 = meaningIn parts run
+  𝓢 = meaning_in parts run
 
   abbrev kind : ℕ
-  kind = kind_at (nodesIn parts) n
+  kind = kind_at (nodes_in parts) n
 
   abbrev child : ℕ → ℕ
-  child k = slot_at (nodesIn parts) n k
+  child k = slot_at (nodes_in parts) n k
 
   abbrev result : ℕ → Result (Cell 𝓢.Seen)
-  result w = eval 𝓢.marking (expAt (constantsIn parts) (nodesIn parts) w) (workOf 𝓢.mark_of work)
+  result w = eval 𝓢.marking (exp_at (constants_in parts) (nodes_in parts) w) (work_of 𝓢.mark_of work)
 
   -- the word of a value
-  seen-word : {r : ℕ} {v : Value} {mark : ℕ} {s : 𝓢.Seen} → Word v mark r → Sees 𝓢 s mark → result n ≡ gives (cell v s) → Evaluated parts work run n r
-  seen-word made sees e = answers-gives (seen-goes 𝓢 made sees) (e ∙ ap gives (seen-cell 𝓢 made sees)) (seen-known 𝓢 made sees)
+  seen_word : {r : ℕ} {v : Value} {mark : ℕ} {s : 𝓢.Seen} → Word v mark r → Sees 𝓢 s mark → result n ≡ gives (cell v s) → Evaluated parts work run n r
+  seen_word made sees e = answers_gives (seen_goes 𝓢 made sees) (e ∙ ap gives (seen-cell 𝓢 made sees)) (seen-known 𝓢 made sees)
 
   -- a constant, and a field
-  pub constant-word : {r a : ℕ} {v : Value} {mark : ℕ} → kind ≡ 0 → a ≡ child 0 → v ≡ constantAt (constantsIn parts) a → Constant 𝓢 mark → Word v mark r
+  pub constant_word : {r a : ℕ} {v : Value} {mark : ℕ} → kind ≡ 0 → a ≡ child 0 → v ≡ constant_at (constants_in parts) a → Constant 𝓢 mark → Word v mark r
       → Evaluated parts work run n r × Goes r
-  constant-word {r} {a} {v} {mark} k is value sees made = (
-    seen-word made sees
+  constant_word {r} {a} {v} {mark} k is value sees made = (
+    seen_word made sees
         (eval-constant 𝓢.marking _ p.ready.formed _ p.inside _ k
-        ∙ sym (ap (λ (v : Value). gives (cell v 𝓢.marking.constant)) (value ∙ ap (constantAt (constantsIn parts)) is))),
-    seen-goes 𝓢 made sees,
+        ∙ sym (ap (λ (v : Value). gives (cell v 𝓢.marking.constant)) (value ∙ ap (constant_at (constants_in parts)) is))),
+    seen_goes 𝓢 made sees,
   )
 
-  pub field-word : {r a : ℕ} {v : Value} {m mark : ℕ} → kind ≡ 1 → a ≡ child 0 → v ≡ valueIn (get_or work a 0) → m ≡ markIn (get_or work a 0) → Read 𝓢 a m mark → Word v mark r
+  pub field_word : {r a : ℕ} {v : Value} {m mark : ℕ} → kind ≡ 1 → a ≡ child 0 → v ≡ value_in (get_or work a 0) → m ≡ mark_in (get_or work a 0) → Read 𝓢 a m mark → Word v mark r
       → Evaluated parts work run n r × Goes r
-  unfolding workAt reading
-  field-word {r} {a} {v} {m} {mark} k is value mark-is sees made = (
-    seen-word made sees
+  unfolding work_at reading
+  field_word {r} {a} {v} {m} {mark} k is value mark-is sees made = (
+    seen_word made sees
         (eval-field 𝓢.marking _ p.ready.formed _ p.inside _ k
         ∙ rw (value, mark-is, is)),
-    seen-goes 𝓢 made sees,
+    seen_goes 𝓢 made sees,
   )
 
   -- a stop is handed on
-  pub left-stop-word : {r : ℕ} → 2 ≤ kind → Evaluated parts work run (child 0) r → Stops r → Evaluated parts work run n r
-  left-stop-word k left large = hands_on left large (λ why place. left-stops 𝓢.marking _ p.ready.formed _ p.inside _ why place k p.sort)
+  pub left_stop_word : {r : ℕ} → 2 ≤ kind → Evaluated parts work run (child 0) r → Stops r → Evaluated parts work run n r
+  left_stop_word k left large = hands_on left large (λ why place. left-stops 𝓢.marking _ p.ready.formed _ p.inside _ why place k p.sort)
 
   module _ {l : ℕ} (left : Evaluated parts work run (child 0) l) (goes : Goes l) where
-    pub not-word : {r : ℕ} {v : Value} {mark : ℕ} → kind ≡ 3 → v ≡ notOf (valueIn l) → mark ≡ markIn l → Word v mark r → Evaluated parts work run n r
-    not-word {r} {v} {mark} k value is made =
-        seen-word made (record { is = ap 𝓢.seenOf is; known = rw is (left.known goes); few = omega arith })
+    pub not_word : {r : ℕ} {v : Value} {mark : ℕ} → kind ≡ 3 → v ≡ not_of (value_in l) → mark ≡ mark_in l → Word v mark r → Evaluated parts work run n r
+    not_word {r} {v} {mark} k value is made =
+        seen_word made (record { is = ap 𝓢.seen_of is; known = rw is (left.known goes); few = omega arith })
         (not_gives 𝓢.marking _ p.ready.formed _ p.inside _ _ _ (answer-gives left goes) k
-        ∙ sym (ap (λ (v : Value). gives (cell v (𝓢.seenOf (markIn l)))) value))
+        ∙ sym (ap (λ (v : Value). gives (cell v (𝓢.seen_of (mark_in l)))) value))
 
-    pub seal-word : {r : ℕ} {v : Value} {mark : ℕ} → kind ≡ 4 → v ≡ valueIn l → Sealed 𝓢 mark → Word v mark r → Evaluated parts work run n r
-    seal-word {r} {v} {mark} k value sees made =
-        seen-word made sees
+    pub seal_word : {r : ℕ} {v : Value} {mark : ℕ} → kind ≡ 4 → v ≡ value_in l → Sealed 𝓢 mark → Word v mark r → Evaluated parts work run n r
+    seal_word {r} {v} {mark} k value sees made =
+        seen_word made sees
         (seal-gives 𝓢.marking _ p.ready.formed _ p.inside _ _ _ (answer-gives left goes) k
         ∙ sym (ap (λ (v : Value). gives (cell v 𝓢.marking.sealed)) value))
 
     module _ (k : kind ≡ 2) {r : ℕ} (right : Evaluated parts work run (child 1) r) where
-      pub right-stop-word : Stops r → Evaluated parts work run n r
-      right-stop-word large =
+      pub right_stop_word : Stops r → Evaluated parts work run n r
+      right_stop_word large =
           hands_on right large (λ why place. right-stops 𝓢.marking _ p.ready.formed _ p.inside _ _ _ (answer-gives left goes) why place k)
 
-      pub operator-word : Goes r → {word : ℕ} → Operated parts run n l r word → Evaluated parts work run n word
-      operator-word h operated = record {
-        is = operated.is ∙ sym (both-give 𝓢.marking _ p.ready.formed _ p.inside _ _ _ (answer-gives left goes) _ _ k (answer-gives right h));
+      pub operator_word : Goes r → {word : ℕ} → Operated parts run n l r word → Evaluated parts work run n word
+      operator_word h operated = record {
+        is = operated.is ∙ sym (both_give 𝓢.marking _ p.ready.formed _ p.inside _ _ _ (answer-gives left goes) _ _ k (answer-gives right h));
         known = operated.known;
         number = operated.number;
       }

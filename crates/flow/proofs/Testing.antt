@@ -6,28 +6,28 @@ use mathlib.Core.List.{List}
 use borrow.Author.Tests.{eqb-true, eqb-false}
 use lib.Dec.{eqb}
 use Rattle.basis.proofs.Tests.{split}
-use Rattle.value.specs.Values.{isTrue}
+use Rattle.value.specs.Values.{is_true}
 use Rattle.value.specs.declared.Value.{Value}
-use Rattle.nodes.specs.Nodes.{In, kind_at, slot_at, kinds, heldIn}
+use Rattle.nodes.specs.Nodes.{In, kind_at, slot_at, kinds, held_in}
 use Rattle.nodes.specs.Inside.Formed.{ExpBelow, WellFormed}
 use Rattle.sheet.specs.Trees.{Exp}
-use Rattle.sheet.proofs.Trees.{held-there}
+use Rattle.sheet.proofs.Trees.{held_there}
 use Rattle.rules.specs.Ends.{Why, gives, stops, End, stopped, at, with, choose, spend}
 use Rattle.rules.specs.Rules.{Marking, eval, branch, tested}
 use Rattle.store.specs.Cells.{cell, Store}
-use Rattle.marks.specs.Inside.Parts.{nodesIn}
-use Rattle.marks.specs.Inside.Words.{valueIn, markIn, Word, Goes, Stops, runIn, contextIn}
+use Rattle.marks.specs.Inside.Parts.{nodes_in}
+use Rattle.marks.specs.Inside.Words.{value_in, mark_in, Word, Goes, Stops, run_in, context_in}
 use Rattle.marks.specs.Inside.Meanings.{Meaning, Entered}
-use Rattle.flow.specs.Inside.Tasks.{meaningIn, ExpIn, Evaluated, CmdIn, Tested}
+use Rattle.flow.specs.Inside.Tasks.{meaning_in, ExpIn, Evaluated, CmdIn, Tested}
 use Rattle.marks.proofs.Results.{goes_number, answer-gives, answer-stops}
-use Rattle.flow.proofs.Ends.{test-stopped, test-side}
+use Rattle.flow.proofs.Ends.{test_stopped, test_side}
 
 -- ── by the rules ────────────────────────────────────────────────────────────────────────────
 
 module _ {Mark Seen Context : Type 0} (𝓜 : Marking Mark Seen Context) (place : ℕ) (e : Exp) (context : Context) (σ : Store Mark) (left : ℕ)
-    (yes-side no-side : Context → ℕ → End Mark) where
+    (yes_side no_side : Context → ℕ → End Mark) where
   abbrev end : End Mark
-  end = tested 𝓜 place e context σ (suc left) yes-side no-side
+  end = tested 𝓜 place e context σ (suc left) yes_side no_side
 
   tested-stops : (why : Why) (there : ℕ) → eval 𝓜 e σ ≡ stops why there → end ≡ stopped why there left
   unfolding tested spend with
@@ -38,41 +38,41 @@ module _ {Mark Seen Context : Type 0} (𝓜 : Marking Mark Seen Context) (place 
     unfolding tested spend with branch
     tested-refused why there h = rw (value, h)
 
-    tested-goes : (c : Context) → at place (𝓜.enter context m) ≡ gives c → end ≡ choose (isTrue v) (λ c. yes-side c left) (λ c. no-side c left) c
+    tested_goes : (c : Context) → at place (𝓜.enter context m) ≡ gives c → end ≡ choose (is_true v) (λ c. yes_side c left) (λ c. no_side c left) c
     unfolding tested spend with branch
-    tested-goes c h = rw (value, h)
+    tested_goes c h = rw (value, h)
 
 -- ── by the words of a test ──────────────────────────────────────────────────────────────────
 
-module _ (parts : List (List ℕ)) (work : List ℕ) (n task x : ℕ) (evaluated : Evaluated parts work (runIn task) (slot_at (nodesIn parts) n 0) x) where
+module _ (parts : List (List ℕ)) (work : List ℕ) (n task x : ℕ) (evaluated : Evaluated parts work (run_in task) (slot_at (nodes_in parts) n 0) x) where
   abbrev 𝓢 : Meaning
-  𝓢 = meaningIn parts (runIn task)
+  𝓢 = meaning_in parts (run_in task)
 
-  pub expression-stops : Stops x → Tested parts work n task x
-  expression-stops large = record {
-    is = λ left yes-side no-side. test-stopped _ x left yes-side no-side large ∙ sym (tested-stops _ _ _ _ _ left yes-side no-side _ _ (answer-stops evaluated large));
+  pub expression_stops : Stops x → Tested parts work n task x
+  expression_stops large = record {
+    is = λ left yes_side no_side. test_stopped _ x left yes_side no_side large ∙ sym (tested-stops _ _ _ _ _ left yes_side no_side _ _ (answer-stops evaluated large));
     context = λ small. absurd (omega arith);
     number = evaluated.number;
   }
 
-  module _ (goes : Goes x) {k : ℕ} (entered : Entered 𝓢 n (contextIn task) (markIn x) k) where
-    pub test-refused : Stops k → Tested parts work n task k
-    test-refused large = record {
-      is = λ left yes-side no-side. test-stopped _ k left yes-side no-side large
-          ∙ sym (tested-refused _ _ _ _ _ left yes-side no-side _ _ (answer-gives evaluated goes) _ _ (answer-stops entered large));
+  module _ (goes : Goes x) {k : ℕ} (entered : Entered 𝓢 n (context_in task) (mark_in x) k) where
+    pub test_refused : Stops k → Tested parts work n task k
+    test_refused large = record {
+      is = λ left yes_side no_side. test_stopped _ k left yes_side no_side large
+          ∙ sym (tested-refused _ _ _ _ _ left yes_side no_side _ _ (answer-gives evaluated goes) _ _ (answer-stops entered large));
       context = λ small. absurd (omega arith);
       number = entered.number;
     }
 
     -- the test's value with the context after it
-    pub goes_on : Goes k → {r : ℕ} → Word (valueIn x) k r → Tested parts work n task r
+    pub goes_on : Goes k → {r : ℕ} → Word (value_in x) k r → Tested parts work n task r
     goes_on fine {r} made =
         let few = (entered.known fine).1 in
         let low : Goes r = omega (arith, made.mark-is) in
         record {
-          is = λ left yes-side no-side. test-side 𝓢.context_of r left yes-side no-side low
+          is = λ left yes_side no_side. test_side 𝓢.context_of r left yes_side no_side low
               ∙ rw (made.value, made.mark-is)
-              (sym (tested-goes _ _ _ _ _ left yes-side no-side _ _ (answer-gives evaluated goes) _ (answer-gives entered fine)));
+              (sym (tested_goes _ _ _ _ _ left yes_side no_side _ _ (answer-gives evaluated goes) _ (answer-gives entered fine)));
           context = λ _. rw made.mark-is (entered.known fine).0;
           number = goes_number r low;
         }
@@ -80,15 +80,15 @@ module _ (parts : List (List ℕ)) (work : List ℕ) (n task x : ℕ) (evaluated
 -- ── the test's expression ───────────────────────────────────────────────────────────────────
 
 test_below : {s : List ℕ} {fields constants : ℕ} → WellFormed s fields constants → (n : ℕ) → In s n → 8 ≤ kind_at s n → ExpBelow s n (slot_at s n 0)
-unfolding heldIn kinds
+unfolding held_in kinds
 test_below {s} nodes n i h =
     let known = nodes.kind n i in
     split (eqb (kind_at s n) 8)
-    (λ k. held-there nodes n i 8 0 (eqb-true _ _ k) (omega arith))
-    (λ k. held-there nodes n i 9 0 (omega (arith, eqb-false (kind_at s n) 8 k)) (omega arith))
+    (λ k. held_there nodes n i 8 0 (eqb-true _ _ k) (omega arith))
+    (λ k. held_there nodes n i 9 0 (omega (arith, eqb-false (kind_at s n) 8 k)) (omega arith))
 
-pub test_in : {parts : List (List ℕ)} {work : List ℕ} {n task : ℕ} → CmdIn parts work n task → 8 ≤ kind_at (nodesIn parts) n
-    → ExpIn parts work (runIn task) (slot_at (nodesIn parts) n 0)
+pub test_in : {parts : List (List ℕ)} {work : List ℕ} {n task : ℕ} → CmdIn parts work n task → 8 ≤ kind_at (nodes_in parts) n
+    → ExpIn parts work (run_in task) (slot_at (nodes_in parts) n 0)
 test_in p h =
     let inside = p.inside in
     let below = test_below p.ready.formed _ inside h in

@@ -2,7 +2,7 @@
 // done in the same call. A task says in one number in which context, and what stays the same for all of a run.
 ghost use Rattle.std.specs.Prelude.{◌≡◌, map, suc, ◌≤◌, ◌<◌};
 ghost use Rattle.nodes.specs.Nodes.{kind_at};
-ghost use Rattle.marks.specs.Inside.Parts.{nodesIn};
+ghost use Rattle.marks.specs.Inside.Parts.{nodes_in};
 ghost use Rattle.flow.specs.Inside.Tasks.{CmdIn, Assigned, Tested, Ran};
 
 use crate::eval::expression;
@@ -13,7 +13,7 @@ use marks::{enter, store};
 
 // Field a := expression b. Answers 0, or a stop.
 fn assign(parts: &[&[u8]; 3], work: &mut [u64; 64], n: usize, task: u64) -> u64
-    requires { CmdIn (map (λ x. x.now) parts.now) work.old n task × (kind_at (nodesIn (map (λ x. x.now) parts.now)) n ≡ 6) }
+    requires { CmdIn (map (λ x. x.now) parts.now) work.old n task × (kind_at (nodes_in (map (λ x. x.now) parts.now)) n ≡ 6) }
     ensures { Assigned (map (λ x. x.now) parts.now) work.old n task work.new result }
 {
     let x = expression(parts, work, slot_in(parts, n, 1), run_in(task));
@@ -31,7 +31,7 @@ fn assign(parts: &[&[u8]; 3], work: &mut [u64; 64], n: usize, task: u64) -> u64
 
 // The test of an if or a while. Answers its value with the context after it in the mark's place, or a stop.
 fn test(parts: &[&[u8]; 3], work: &[u64; 64], n: usize, task: u64) -> u64
-    requires { CmdIn (map (λ x. x.now) parts.now) work.now n task × (8 ≤ kind_at (nodesIn (map (λ x. x.now) parts.now)) n) }
+    requires { CmdIn (map (λ x. x.now) parts.now) work.now n task × (8 ≤ kind_at (nodes_in (map (λ x. x.now) parts.now)) n) }
     ensures { Tested (map (λ x. x.now) parts.now) work.now n task result }
 {
     let x = expression(parts, work, slot_in(parts, n, 0), run_in(task));
@@ -47,7 +47,7 @@ fn test(parts: &[&[u8]; 3], work: &[u64; 64], n: usize, task: u64) -> u64
 
 // A skip, or an assignment, once its unit is spent. Answers the fuel left, or a stop.
 fn single(parts: &[&[u8]; 3], work: &mut [u64; 64], n: usize, task: u64, left: u32) -> u64
-    requires { CmdIn (map (λ x. x.now) parts.now) work.old n task × (kind_at (nodesIn (map (λ x. x.now) parts.now)) n < 7) }
+    requires { CmdIn (map (λ x. x.now) parts.now) work.old n task × (kind_at (nodes_in (map (λ x. x.now) parts.now)) n < 7) }
     ensures { Ran (map (λ x. x.now) parts.now) work.old n task (suc left) work.new result }
 {
     if kind_in(parts, n) == 5 {

@@ -3,10 +3,10 @@
 // below a not or a seal, so the compiler keeps it apart from `expression`.
 ghost use Rattle.std.specs.Prelude.{map, ◌<◌};
 ghost use Rattle.nodes.specs.Nodes.{In, kind_at};
-ghost use Rattle.marks.specs.Inside.Parts.{nodesIn};
-ghost use Rattle.marks.specs.Inside.Words.{Place, markIn, Goes};
+ghost use Rattle.marks.specs.Inside.Parts.{nodes_in};
+ghost use Rattle.marks.specs.Inside.Words.{Place, mark_in, Goes};
 ghost use Rattle.marks.specs.Inside.Meanings.{Joins};
-ghost use Rattle.flow.specs.Inside.Tasks.{meaningIn, ExpIn, Evaluated, Operated};
+ghost use Rattle.flow.specs.Inside.Tasks.{meaning_in, ExpIn, Evaluated, Operated};
 
 use basis::numbers;
 use marks::parts::{constant_in, kind_in, op_in, slot_in};
@@ -16,7 +16,7 @@ use value::Computed;
 
 // The operator at node n, between the values in two words.
 fn operate(parts: &[&[u8]; 3], left: u64, n: usize, right: u64, run: u32) -> u64
-    requires { Joins (meaningIn (map (λ x. x.now) parts.now) run) (markIn left) (markIn right) × In (nodesIn (map (λ x. x.now) parts.now)) n × Place n }
+    requires { Joins (meaning_in (map (λ x. x.now) parts.now) run) (mark_in left) (mark_in right) × In (nodes_in (map (λ x. x.now) parts.now)) n × Place n }
     ensures { Operated (map (λ x. x.now) parts.now) run n left right result }
 {
     match value::apply(op_in(parts, n), value_in(left), value_in(right)) {
@@ -28,7 +28,7 @@ fn operate(parts: &[&[u8]; 3], left: u64, n: usize, right: u64, run: u32) -> u64
 
 // The constant or the field at node n.
 fn leaf(parts: &[&[u8]; 3], work: &[u64; 64], n: usize, run: u32) -> u64
-    requires { ExpIn (map (λ x. x.now) parts.now) work.now run n × (kind_at (nodesIn (map (λ x. x.now) parts.now)) n < 2) }
+    requires { ExpIn (map (λ x. x.now) parts.now) work.now run n × (kind_at (nodes_in (map (λ x. x.now) parts.now)) n < 2) }
     ensures { Evaluated (map (λ x. x.now) parts.now) work.now run n result × Goes result }
 {
     let a = slot_in(parts, n, 0);

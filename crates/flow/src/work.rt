@@ -1,8 +1,8 @@
 // A work store: a word for each field. It is filled from a store, and written out as one.
 ghost use Rattle.std.specs.Prelude.{◌≡◌, ℕ, ◌≤◌, ◌<◌, length, get_or, replicate};
 ghost use Rattle.store.specs.Marks.{mark_of};
-ghost use Rattle.store.specs.Stores.{storeLength, storeOver};
-ghost use Rattle.marks.specs.Inside.Words.{markIn, workOf};
+ghost use Rattle.store.specs.Stores.{store_length, store_over};
+ghost use Rattle.marks.specs.Inside.Words.{mark_in, work_of};
 ghost use Rattle.flow.specs.Inside.Tasks.{Fetched};
 
 use marks::words::{mark_in, value_in, word};
@@ -10,7 +10,7 @@ use store::{mark_at, put_field, value_at};
 
 // Fills a work store with the fields of a store.
 pub fn fetch(store: &[u8], work: &mut [u64; 64], fields: usize)
-    requires { (fields ≤ 64) × (length store.now ≡ storeLength fields) × (work.old ≡ replicate 64 0) }
+    requires { (fields ≤ 64) × (length store.now ≡ store_length fields) × (work.old ≡ replicate 64 0) }
     ensures { Fetched store.now work.new }
 {
     let mut i = 0;
@@ -22,8 +22,8 @@ pub fn fetch(store: &[u8], work: &mut [u64; 64], fields: usize)
 
 // Writes so many fields of a work store to the front of `out`, as a store.
 pub fn deliver(work: &[u64; 64], out: &mut [u8], fields: usize)
-    requires { (fields ≤ 64) × (storeLength fields ≤ length out.old) × ((i : ℕ) → i < fields → markIn (get_or work.now i 0) < 256) }
-    ensures { out.new ≡ storeOver (workOf mark_of work.now) fields out.old }
+    requires { (fields ≤ 64) × (store_length fields ≤ length out.old) × ((i : ℕ) → i < fields → mark_in (get_or work.now i 0) < 256) }
+    ensures { out.new ≡ store_over (work_of mark_of work.now) fields out.old }
 {
     out[0] = (fields % 256) as u8;
     out[1] = 0;

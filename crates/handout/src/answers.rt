@@ -3,10 +3,10 @@ ghost use Rattle.std.specs.Prelude.{◌≡◌, false, ◌∷◌, ◌+◌, ◌≤
 ghost use Rattle.std.proofs.lemmas.List.Edits.{sets};
 ghost use Rattle.value.specs.Bytes.{bytes_of};
 ghost use Rattle.levels.specs.Lattice.{lattice};
-ghost use Rattle.store.specs.Marks.{levelOf, mark_of};
-ghost use Rattle.store.specs.Stores.{markAt, store_of};
-ghost use Rattle.handout.specs.Answers.{answerEntry, answerLength, shown, refuses, firstRefusing};
-ghost use Rattle.handout.specs.Inside.Asks.{Faces, AsksAs, Shows, Answerable, answerGiven};
+ghost use Rattle.store.specs.Marks.{level_of, mark_of};
+ghost use Rattle.store.specs.Stores.{mark_at, store_of};
+ghost use Rattle.handout.specs.Answers.{answer_entry, answer_length, shown, refuses, first_refusing};
+ghost use Rattle.handout.specs.Inside.Asks.{Faces, AsksAs, Shows, Answerable, answer_given};
 
 use crate::requests::{count, field_at};
 use store::{is_partial, level_of, mark_at, value_at};
@@ -18,7 +18,7 @@ const ENTRY: usize = 5;
 // How long the answer to a right request is.
 pub fn length(request: &[u8]) -> usize
     requires { 2 ≤ length request.now }
-    ensures { result ≡ answerLength request.now }
+    ensures { result ≡ answer_length request.now }
 {
     2 + count(request) * ENTRY
 }
@@ -26,7 +26,7 @@ pub fn length(request: &[u8]) -> usize
 // Whether the level of field i lies at or below the reader.
 fn at_or_below(rows: &[u8], store: &[u8], i: usize, reader: usize) -> bool
     requires { Faces rows.now store.now i reader }
-    ensures { result ≡ (lattice rows.now).le (levelOf (mark_of (markAt store.now i))) reader }
+    ensures { result ≡ (lattice rows.now).le (level_of (mark_of (mark_at store.now i))) reader }
 {
     levels::at_or_below(rows, level_of(mark_at(store, i)), reader)
 }
@@ -45,7 +45,7 @@ fn refuses(rows: &[u8], store: &[u8], i: usize, reader: usize) -> bool
 // The first position that asks for a field that refuses, or the count if none does.
 pub fn first_refusing(rows: &[u8], store: &[u8], reader: usize, request: &[u8]) -> usize
     requires { AsksAs rows.now store.now reader request.now }
-    ensures { result ≡ firstRefusing (lattice rows.now) reader (store_of store.now) request.now }
+    ensures { result ≡ first_refusing (lattice rows.now) reader (store_of store.now) request.now }
 {
     let asked = count(request);
     let mut position = 0;
@@ -60,7 +60,7 @@ pub fn first_refusing(rows: &[u8], store: &[u8], reader: usize, request: &[u8]) 
 
 // Writes an answer's entry, a byte and a value, at an offset.
 fn put_entry(out: &mut [u8], at: usize, byte: u8, v: Value)
-    requires { at + answerEntry ≤ length out.old }
+    requires { at + answer_entry ≤ length out.old }
     ensures { out.new ≡ sets out.old at (byte ∷ bytes_of v.n) }
 {
     out[at] = byte;
@@ -69,7 +69,7 @@ fn put_entry(out: &mut [u8], at: usize, byte: u8, v: Value)
 
 // Writes the entry of field i, which does not refuse: 1 and the value if its level lies at or below the reader, else 0 and value 0.
 fn show(out: &mut [u8], at: usize, rows: &[u8], store: &[u8], i: usize, reader: usize)
-    requires { (at + answerEntry ≤ length out.old) × Shows rows.now store.now i reader }
+    requires { (at + answer_entry ≤ length out.old) × Shows rows.now store.now i reader }
     ensures { out.new ≡ sets out.old at (shown (lattice rows.now) reader (store_of store.now i)) }
 {
     if at_or_below(rows, store, i, reader) {
@@ -82,7 +82,7 @@ fn show(out: &mut [u8], at: usize, rows: &[u8], store: &[u8], i: usize, reader: 
 // Writes the answer to a request that no field refuses to the front of `out`.
 pub fn give(rows: &[u8], store: &[u8], reader: usize, request: &[u8], out: &mut [u8])
     requires { Answerable rows.now store.now reader request.now out.old }
-    ensures { out.new ≡ answerGiven rows.now store.now reader request.now out.old }
+    ensures { out.new ≡ answer_given rows.now store.now reader request.now out.old }
 {
     let asked = count(request);
     out[0] = (asked % 256) as u8;

@@ -6,15 +6,15 @@ use native.Mathlib.Decide.{ℕ_discrete}
 use mathlib.Core.Path.{◌≡◌, refl, sym, ◌∙◌}
 use mathlib.Core.Bool.{Bool, true, false, ◌&&◌, true≢false}
 use Rattle.basis.specs.Tests.{◌⇒◌, all, some, which}
-use Rattle.basis.proofs.Tests.{both, and-of, apply-both, implies-both, split, all-at, all_of, which-at, some_of}
+use Rattle.basis.proofs.Tests.{both, and_of_lem, apply_both, implies_both, split, all-at, all_of, which-at, some_of}
 
 abbrev pub turned : (ℕ → ℕ → Bool) → ℕ → ℕ → Bool
 turned R i j = R j i
 
 module _ (n : ℕ) (R : ℕ → ℕ → Bool) where
   -- k is the join of i and j, as a test and as facts
-  abbrev pub isJoin : ℕ → ℕ → ℕ → Bool
-  isJoin i j k = R i k && R j k && all n (λ l. R i l && R j l ⇒ R k l)
+  abbrev pub is_join : ℕ → ℕ → ℕ → Bool
+  is_join i j k = R i k && R j k && all n (λ l. R i l && R j l ⇒ R k l)
 
   pub record IsJoin (i j k : ℕ) : Type 0 where
     pub level : k < n
@@ -31,20 +31,20 @@ module _ (n : ℕ) (R : ℕ → ℕ → Bool) where
     pub itself : (i : ℕ) → i < n → R i i ≡ true
     pub one : (i j : ℕ) → i < n → j < n → R i j ≡ true → R j i ≡ true → i ≡ j
     pub through : (i j k : ℕ) → i < n → j < n → k < n → R i j ≡ true → R j k ≡ true → R i k ≡ true
-    pub joins : (i j : ℕ) → i < n → j < n → some n (isJoin i j) ≡ true
+    pub joins : (i j : ℕ) → i < n → j < n → some n (is_join i j) ≡ true
 
-  pub join-facts : (i j k : ℕ) → k < n → isJoin i j k ≡ true → IsJoin i j k
-  join-facts i j k d h =
+  pub join_facts : (i j k : ℕ) → k < n → is_join i j k ≡ true → IsJoin i j k
+  join_facts i j k d h =
       let (upper, least) = both (R i k && R j k) _ h in
       let (left, right) = both (R i k) (R j k) upper in
-      record { level = d; left = left; right = right; least = λ l m. apply-both _ _ _ (all-at n _ least l m) }
+      record { level = d; left = left; right = right; least = λ l m. apply_both _ _ _ (all-at n _ least l m) }
 
-  pub has_join : (i j k : ℕ) → IsJoin i j k → some n (isJoin i j) ≡ true
+  pub has_join : (i j k : ℕ) → IsJoin i j k → some n (is_join i j) ≡ true
   has_join i j k g =
-      some_of n (isJoin i j) k g.level (and-of (and-of g.left g.right) (all_of n _ (λ l m. implies-both _ _ _ (g.least l m))))
+      some_of n (is_join i j) k g.level (and_of_lem (and_of_lem g.left g.right) (all_of n _ (λ l m. implies_both _ _ _ (g.least l m))))
 
 module _ (n : ℕ) (R : ℕ → ℕ → Bool) (o : Order n R) where
-  pub turn : ((i j : ℕ) → i < n → j < n → some n (isJoin n (turned R) i j) ≡ true) → Order n (turned R)
+  pub turn : ((i j : ℕ) → i < n → j < n → some n (is_join n (turned R) i j) ≡ true) → Order n (turned R)
   turn meets = record {
     some_level = o.some_level;
     itself = o.itself;
@@ -56,11 +56,11 @@ module _ (n : ℕ) (R : ℕ → ℕ → Bool) (o : Order n R) where
   -- ── the join of two ───────────────────────────────────────────────────────────────────────
 
   module _ (i j : ℕ) (a : i < n) (b : j < n) where
-    pub join_is : IsJoin n R i j (which n (isJoin n R i j))
-    join_is = let w = which-at n _ (o.joins i j a b) in join-facts n R i j _ w.0 w.1
+    pub join_is : IsJoin n R i j (which n (is_join n R i j))
+    join_is = let w = which-at n _ (o.joins i j a b) in join_facts n R i j _ w.0 w.1
 
-    pub join-only : (k : ℕ) → IsJoin n R i j k → k ≡ which n (isJoin n R i j)
-    join-only k g =
+    pub join_only : (k : ℕ) → IsJoin n R i j k → k ≡ which n (is_join n R i j)
+    join_only k g =
         let h = join_is in
         o.one k _ g.level h.level (g.least _ h.level h.left h.right) (h.least k g.level g.left g.right)
 
@@ -76,10 +76,10 @@ module _ (n : ℕ) (R : ℕ → ℕ → Bool) (o : Order n R) where
   module _ (P : ℕ → Bool) (first : ℕ) (inside : first < n) (passes : P first ≡ true) where
     gather : (m : ℕ) → m ≤ n → Gathered P m
     gather zero h = record { at = first; level = inside; upper = λ i k. absurd (omega arith); least = λ l b f. f first inside passes }
-    gather (suc m) h = split (P m) (with-m (gather m (omega arith)) (omega arith)) (without-m (gather m (omega arith)))
+    gather (suc m) h = split (P m) (with_m (gather m (omega arith)) (omega arith)) (without_m (gather m (omega arith)))
       where
-        with-m : Gathered P m → m < n → P m ≡ true → Gathered P (suc m)
-        with-m w d e =
+        with_m : Gathered P m → m < n → P m ≡ true → Gathered P (suc m)
+        with_m w d e =
             let j = join_is w.at m w.level d in
             record {
               at = _;
@@ -91,8 +91,8 @@ module _ (n : ℕ) (R : ℕ → ℕ → Bool) (o : Order n R) where
               least = λ l b f. j.least l b (w.least l b f) (f m d e);
             }
 
-        without-m : Gathered P m → P m ≡ false → Gathered P (suc m)
-        without-m w e = record {
+        without_m : Gathered P m → P m ≡ false → Gathered P (suc m)
+        without_m w e = record {
           at = w.at;
           level = w.level;
           upper = λ i k p. elim (ℕ_discrete i m) [ yes q ↦ absurd (true≢false (sym p ∙ rw (sym q) at e)) | no q ↦ w.upper i (omega arith) p ];
@@ -101,24 +101,24 @@ module _ (n : ℕ) (R : ℕ → ℕ → Bool) (o : Order n R) where
 
   -- ── the highest, and the meets ────────────────────────────────────────────────────────────
 
-  has-highest : some n (λ k. all n (λ i. R i k)) ≡ true
-  has-highest =
+  has_highest : some n (λ k. all n (λ i. R i k)) ≡ true
+  has_highest =
       let w = gather (λ i. true) 0 o.some_level refl n (omega arith) in
       some_of n _ w.at w.level (all_of n _ (λ i h. w.upper i h refl))
 
-  pub highest-is : IsHighest n R (which n (λ k. all n (λ i. R i k)))
-  highest-is = let w = which-at n _ has-highest in record { level = w.0; upper = all-at n _ w.1 }
+  pub highest_is : IsHighest n R (which n (λ k. all n (λ i. R i k)))
+  highest_is = let w = which-at n _ has_highest in record { level = w.0; upper = all-at n _ w.1 }
 
-  pub highest-only : (k : ℕ) → IsHighest n R k → k ≡ which n (λ k. all n (λ i. R i k))
-  highest-only k g = let h = highest-is in o.one k _ g.level h.level (h.upper k g.level) (g.upper _ h.level)
+  pub highest_only : (k : ℕ) → IsHighest n R k → k ≡ which n (λ k. all n (λ i. R i k))
+  highest_only k g = let h = highest_is in o.one k _ g.level h.level (h.upper k g.level) (g.upper _ h.level)
 
   -- the meet of two is the join of what lies below both
-  pub meets : (low : ℕ) → IsHighest n (turned R) low → (i j : ℕ) → i < n → j < n → some n (isJoin n (turned R) i j) ≡ true
+  pub meets : (low : ℕ) → IsHighest n (turned R) low → (i j : ℕ) → i < n → j < n → some n (is_join n (turned R) i j) ≡ true
   meets low g i j a b =
-      let w = gather (λ l. R l i && R l j) low g.level (and-of (g.upper i a) (g.upper j b)) n (omega arith) in
+      let w = gather (λ l. R l i && R l j) low g.level (and_of_lem (g.upper i a) (g.upper j b)) n (omega arith) in
       has_join n (turned R) i j w.at (record {
         level = w.level;
         left = w.least i a (λ l k h. (both (R l i) (R l j) h).0);
         right = w.least j b (λ l k h. (both (R l i) (R l j) h).1);
-        least = λ l k p q. w.upper l k (and-of p q);
+        least = λ l k p q. w.upper l k (and_of_lem p q);
       })

@@ -7,35 +7,35 @@ use mathlib.Core.List.{List}
 use borrow.Author.Tests.{ltb-true, lt-ltb, eqb-true, eq-eqb}
 use lib.Bits.{and_lt}
 use lib.Pow.{ones_lt}
-use Rattle.basis.proofs.Tests.{both, and-of, which-at, some_of, iff}
-use Rattle.levels.specs.Levels.{bit, count, row_at, below, right, join_of, lowestOf}
-use Rattle.levels.specs.Inside.Judging.{aboveBoth, is_row, WithRow}
-use Rattle.levels.proofs.Sets.{bit-and, bit-ext, bit-full}
+use Rattle.basis.proofs.Tests.{both, and_of_lem, which-at, some_of, iff}
+use Rattle.levels.specs.Levels.{bit, count, row_at, below, right, join_of, lowest_of}
+use Rattle.levels.specs.Inside.Judging.{above_both, is_row, WithRow}
+use Rattle.levels.proofs.Sets.{bit_and_lem, bit_ext, bit_full}
 use Rattle.levels.proofs.Order.{IsJoin}
 use Rattle.levels.proofs.Facts.{facts}
-use Rattle.levels.proofs.Bounds.{join_is, lowest-is}
+use Rattle.levels.proofs.Bounds.{join_is, lowest_is}
 
 module _ (s : List ℕ) where
   -- what lies above both i and j
-  pub above-both : (i j l : ℕ) → bit (aboveBoth s i j) l ≡ (below s i l && below s j l)
+  pub above_both_lem : (i j l : ℕ) → bit (above_both s i j) l ≡ (below s i l && below s j l)
   unfolding below
-  above-both i j l = bit-and (row_at s i) (row_at s j) l
+  above_both_lem i j l = bit_and_lem (row_at s i) (row_at s j) l
 
-  pub above-each : (i j l : ℕ) → bit (aboveBoth s i j) l ≡ true → (below s i l ≡ true) × (below s j l ≡ true)
-  above-each i j l h = both (below s i l) (below s j l) (sym (above-both i j l) ∙ h)
+  pub above_each : (i j l : ℕ) → bit (above_both s i j) l ≡ true → (below s i l ≡ true) × (below s j l ≡ true)
+  above_each i j l h = both (below s i l) (below s j l) (sym (above_both_lem i j l) ∙ h)
 
   -- some level has this row, both ways
-  pub is-row : (k row : ℕ) → k < count s → row_at s k ≡ row → is_row s row ≡ true
+  pub is_row_lem : (k row : ℕ) → k < count s → row_at s k ≡ row → is_row s row ≡ true
   unfolding is_row
-  is-row k row d e = some_of (count s) _ k d (eq-eqb _ _ e)
+  is_row_lem k row d e = some_of (count s) _ k d (eq-eqb _ _ e)
 
-  pub row-at : (row : ℕ) → is_row s row ≡ true → (k : ℕ) × (k < count s) × (row_at s k ≡ row)
+  pub row_at_lem : (row : ℕ) → is_row s row ≡ true → (k : ℕ) × (k < count s) × (row_at s k ≡ row)
   unfolding is_row
-  row-at row h = let w = which-at (count s) _ h in (_, w.0, eqb-true _ _ w.1)
+  row_at_lem row h = let w = which-at (count s) _ h in (_, w.0, eqb-true _ _ w.1)
 
   -- a level that has the row is what a search for it may give
-  pub has-row : (k row : ℕ) → k < count s → row_at s k ≡ row → WithRow s row k
-  has-row k row d e = record { found = lt-ltb k (count s) d ∙ sym (is-row k row d e); is = λ h. e }
+  pub has_row : (k row : ℕ) → k < count s → row_at s k ≡ row → WithRow s row k
+  has_row k row d e = record { found = lt-ltb k (count s) d ∙ sym (is_row_lem k row d e); is = λ h. e }
 
   module _ (h : right s ≡ true) where
     -- levels with one row are one
@@ -46,29 +46,29 @@ module _ (s : List ℕ) where
     -- a row is the set of the levels at or above its own
     row_is : (k row : ℕ) → k < count s → row < 2 ^ count s → ((l : ℕ) → l < count s → below s k l ≡ bit row l) → row_at s k ≡ row
     unfolding below
-    row_is k row d = bit-ext (count s) (row_at s k) row ((facts s h).within k d)
+    row_is k row d = bit_ext (count s) (row_at s k) row ((facts s h).within k d)
 
     -- the row of a join is the intersection of both rows
-    pub row-of-join : (i j k : ℕ) → i < count s → j < count s → IsJoin (count s) (below s) i j k → row_at s k ≡ aboveBoth s i j
-    row-of-join i j k a b g =
+    pub row_of_join : (i j k : ℕ) → i < count s → j < count s → IsJoin (count s) (below s) i j k → row_at s k ≡ above_both s i j
+    row_of_join i j k a b g =
         let r = facts s h in
         row_is k _ g.level (and_lt (count s) (row_at s i) (row_at s j) (r.within i a) (r.within j b)) (λ l m.
         iff (below s k l) (below s i l && below s j l)
-        (λ p. and-of (r.up.through i k l a g.level m g.left p) (r.up.through j k l b g.level m g.right p))
+        (λ p. and_of_lem (r.up.through i k l a g.level m g.left p) (r.up.through j k l b g.level m g.right p))
         (λ p. let (x, y) = both _ _ p in g.least l m x y)
-        ∙ sym (above-both i j l))
+        ∙ sym (above_both_lem i j l))
 
-    pub join-row : (i j : ℕ) → i < count s → j < count s → row_at s (join_of s i j) ≡ aboveBoth s i j
-    join-row i j a b = row-of-join i j _ a b (join_is s h i j a b)
+    pub join_row : (i j : ℕ) → i < count s → j < count s → row_at s (join_of s i j) ≡ above_both s i j
+    join_row i j a b = row_of_join i j _ a b (join_is s h i j a b)
 
     -- the lowest level's row has every level
-    pub lowest-row : row_at s (lowestOf s) ≡ 2 ^ count s - 1
-    lowest-row =
-        let low = lowest-is s h in
-        row_is _ _ low.level (ones_lt (count s)) (λ l m. low.upper l m ∙ sym (bit-full (count s) l m))
+    pub lowest_row : row_at s (lowest_of s) ≡ 2 ^ count s - 1
+    lowest_row =
+        let low = lowest_is s h in
+        row_is _ _ low.level (ones_lt (count s)) (λ l m. low.upper l m ∙ sym (bit_full (count s) l m))
 
     -- a search for the row of level k finds k
     pub with_row : (row r k : ℕ) → WithRow s row r → k < count s → row_at s k ≡ row → (r ≡ k) × (r < count s)
     with_row row r k w d e =
-        let inside = ltb-true r (count s) (w.found ∙ is-row k row d e) in
+        let inside = ltb-true r (count s) (w.found ∙ is_row_lem k row d e) in
         (row_one r k inside d (w.is inside ∙ sym e), inside)

@@ -6,10 +6,10 @@ use native.Mathlib.Decide.{ℕ_discrete}
 use mathlib.Core.Path.{◌≡◌, sym, ◌∙◌}
 use mathlib.Core.Bool.{Bool, true, false, ◌&&◌, cond, true≢false}
 use mathlib.Core.List.{List}
-use Rattle.basis.proofs.Tests.{both, and-of}
-use Rattle.levels.specs.Levels.{count, below, right, meet_of, lowestOf, highestOf}
+use Rattle.basis.proofs.Tests.{both, and_of_lem}
+use Rattle.levels.specs.Levels.{count, below, right, meet_of, lowest_of, highest_of}
 use Rattle.levels.proofs.Facts.{facts}
-use Rattle.levels.proofs.Bounds.{meet-is, lowest-is, highest-is}
+use Rattle.levels.proofs.Bounds.{meet-is, lowest_is, highest_is}
 
 -- what is known of the level found before k
 pub record Found (s : List ℕ) (m k found : ℕ) : Type 0 where
@@ -24,13 +24,13 @@ module _ (s : List ℕ) (h : right s ≡ true) where
       → ((found k : ℕ) → k < count s → test found k ≡ true → (below s found k ≡ true) × (below s k m ≡ true))
       → ((found : ℕ) → below s found m ≡ true → test found m ≡ true)
       → (k found : ℕ) → k < count s → Found s m k found → (t : Bool) → test found k ≡ t → Found s m (k + 1) (cond t k found)
-  next test m goes-up Goes-to k found d f true e = let (up, under) = goes-up found k d e in record {
+  next test m goes_up Goes-to k found d f true e = let (up, under) = goes_up found k d e in record {
     sought = f.sought;
     level = d;
     under = under;
     passed = λ p. elim (ℕ_discrete k m) [ yes q ↦ q | no q ↦ (facts s h).up.one k m d f.sought under (rw (f.passed (omega arith)) at up) ];
   }
-  next test m goes-up Goes-to k found d f false e = record {
+  next test m goes_up Goes-to k found d f false e = record {
     sought = f.sought;
     level = f.level;
     under = f.under;
@@ -38,27 +38,27 @@ module _ (s : List ℕ) (h : right s ≡ true) where
   }
 
   -- from level 0 up to each level above the one found
-  pub highest-first : Found s (highestOf s) 0 0
-  highest-first =
-      let g = highest-is s h in
+  pub highest_first : Found s (highest_of s) 0 0
+  highest_first =
+      let g = highest_is s h in
       let some_level = (facts s h).up.some_level in
       record { sought = g.level; level = some_level; under = g.upper 0 some_level; passed = λ p. absurd (omega arith) }
 
-  pub highest-next : (k found : ℕ) → k < count s → Found s (highestOf s) k found
-      → (t : Bool) → below s found k ≡ t → Found s (highestOf s) (k + 1) (cond t k found)
-  highest-next = next (below s) (highestOf s) (λ found k d e. (e, (highest-is s h).upper k d)) (λ found e. e)
+  pub highest_next : (k found : ℕ) → k < count s → Found s (highest_of s) k found
+      → (t : Bool) → below s found k ≡ t → Found s (highest_of s) (k + 1) (cond t k found)
+  highest_next = next (below s) (highest_of s) (λ found k d e. (e, (highest_is s h).upper k d)) (λ found e. e)
 
   -- from the lowest level up to each level above the one found that lies at or below both
   module _ (i j : ℕ) (a : i < count s) (b : j < count s) where
-    pub meet-first : Found s (meet_of s i j) 0 (lowestOf s)
+    pub meet-first : Found s (meet_of s i j) 0 (lowest_of s)
     meet-first =
         let inside = (meet-is s h i j a b).level in
-        record { sought = inside; level = (lowest-is s h).level; under = (lowest-is s h).upper _ inside; passed = λ p. absurd (omega arith) }
+        record { sought = inside; level = (lowest_is s h).level; under = (lowest_is s h).upper _ inside; passed = λ p. absurd (omega arith) }
 
-    pub meet-next : (k found : ℕ) → k < count s → Found s (meet_of s i j) k found
+    pub meet_next : (k found : ℕ) → k < count s → Found s (meet_of s i j) k found
         → (t : Bool) → (below s found k && below s k i && below s k j) ≡ t → Found s (meet_of s i j) (k + 1) (cond t k found)
-    meet-next =
+    meet_next =
         let g = meet-is s h i j a b in
         next (λ found k. below s found k && below s k i && below s k j) (meet_of s i j)
         (λ found k d e. let (p, y) = both _ _ e in let (up, x) = both _ _ p in (up, g.least k d x y))
-        (λ found e. and-of (and-of e g.left) g.right)
+        (λ found e. and_of_lem (and_of_lem e g.left) g.right)

@@ -31,37 +31,37 @@ module _ (s : List ℕ) where
   transitive = all count (λ i. all count (λ j. all count (λ k. below i j && below j k ⇒ below i k)))
 
   -- .. in which every two levels have a least upper bound (join) ..
-  unfoldable pub isJoin : ℕ → ℕ → ℕ → Bool
-  isJoin i j k = below i k && below j k && all count (λ l. below i l && below j l ⇒ below k l)
+  unfoldable pub is_join : ℕ → ℕ → ℕ → Bool
+  is_join i j k = below i k && below j k && all count (λ l. below i l && below j l ⇒ below k l)
 
   unfoldable pub joins : Bool
-  joins = all count (λ i. all count (λ j. some count (isJoin i j)))
+  joins = all count (λ i. all count (λ j. some count (is_join i j)))
 
   -- .. and a greatest lower bound (meet);
-  unfoldable pub isMeet : ℕ → ℕ → ℕ → Bool
-  isMeet i j k = below k i && below k j && all count (λ l. below l i && below l j ⇒ below l k)
+  unfoldable pub is_meet : ℕ → ℕ → ℕ → Bool
+  is_meet i j k = below k i && below k j && all count (λ l. below l i && below l j ⇒ below l k)
 
   unfoldable pub meets : Bool
-  meets = all count (λ i. all count (λ j. some count (isMeet i j)))
+  meets = all count (λ i. all count (λ j. some count (is_meet i j)))
 
   -- no bit at or past the count: then the row is less than 2 ^ count.
-  unfoldable pub noBitPast : Bool
-  noBitPast = all count (λ i. ltb (row_at i) (2 ^ count))
+  unfoldable pub no_bit_past : Bool
+  no_bit_past = all count (λ i. ltb (row_at i) (2 ^ count))
 
   -- Levels, 1 to 16, as above: number 3 if not.
   unfoldable pub right : Bool
-  right = ltb 0 count && leb count 16 && reflexive && antisymmetric && transitive && joins && meets && noBitPast
+  right = ltb 0 count && leb count 16 && reflexive && antisymmetric && transitive && joins && meets && no_bit_past
 
   -- the least upper bound (join) and the greatest lower bound (meet) of two levels
   unfoldable pub join_of : ℕ → ℕ → ℕ
-  join_of i j = which count (isJoin i j)
+  join_of i j = which count (is_join i j)
 
   unfoldable pub meet_of : ℕ → ℕ → ℕ
-  meet_of i j = which count (isMeet i j)
+  meet_of i j = which count (is_meet i j)
 
   -- BOT is the lowest level, TOP the highest.
-  unfoldable pub lowestOf : ℕ
-  lowestOf = which count (λ i. all count (λ j. below i j))
+  unfoldable pub lowest_of : ℕ
+  lowest_of = which count (λ i. all count (λ j. below i j))
 
-  unfoldable pub highestOf : ℕ
-  highestOf = which count (λ i. all count (λ j. below j i))
+  unfoldable pub highest_of : ℕ
+  highest_of = which count (λ i. all count (λ j. below j i))

@@ -2,9 +2,9 @@
 // row i is set when level i lies at or below level j. So a row is a set of levels, those at or above its own; the row of a join is the
 // intersection of both rows, and the lowest level's row has every level.
 ghost use Rattle.std.specs.Prelude.{◌≡◌, true, ◌-◌, ◌^◌, ◌<◌, ◌≤◌};
-ghost use Rattle.levels.specs.Levels.{bit, count, row_at, below, right, join_of, meet_of, lowestOf, highestOf};
+ghost use Rattle.levels.specs.Levels.{bit, count, row_at, below, right, join_of, meet_of, lowest_of, highest_of};
 ghost use Rattle.levels.specs.Inside.Two.{Two};
-ghost use Rattle.levels.specs.Inside.Judging.{aboveBoth, WithRow, pairRight, levelRight};
+ghost use Rattle.levels.specs.Inside.Judging.{above_both, WithRow, pair_right, level_right};
 
 // Whether the rows are right: number 3 if not. Joins are judged pair by pair; where every two levels have a join, they have a meet too if one
 // level lies below all.
@@ -31,7 +31,7 @@ pub fn right(rows: &[u8]) -> bool
 // Whether level i makes a right pair with each level.
 fn level_right(rows: &[u8], i: usize) -> bool
     requires { (i < count rows.now) × (count rows.now ≤ 16) }
-    ensures { result ≡ levelRight rows.now i }
+    ensures { result ≡ level_right rows.now i }
 {
     let n = rows.len() / 2;
     let mut j: usize = 0;
@@ -48,7 +48,7 @@ fn level_right(rows: &[u8], i: usize) -> bool
 // asked of a pair in one order, since it is the same in the other.
 fn pair_right(rows: &[u8], i: usize, j: usize) -> bool
     requires { (i < count rows.now) × (j < count rows.now) × (count rows.now ≤ 16) }
-    ensures { result ≡ pairRight rows.now i j }
+    ensures { result ≡ pair_right rows.now i j }
 {
     let row_i = row(rows, i);
     let row_j = row(rows, j);
@@ -62,7 +62,7 @@ fn pair_right(rows: &[u8], i: usize, j: usize) -> bool
 // The level whose row is the intersection of rows i and j, or the count if none has it: without a search if it is one of the two.
 fn with_common_row(rows: &[u8], i: usize, j: usize) -> usize
     requires { (i < count rows.now) × (j < count rows.now) }
-    ensures { WithRow rows.now (aboveBoth rows.now i j) result }
+    ensures { WithRow rows.now (above_both rows.now i j) result }
 {
     let row_i = row(rows, i);
     let row_j = row(rows, j);
@@ -127,7 +127,7 @@ pub fn meet(rows: &[u8], i: usize, j: usize) -> usize
 // BOT: the level whose row has every level.
 pub fn lowest(rows: &[u8]) -> usize
     requires { right rows.now ≡ true }
-    ensures { (result ≡ lowestOf rows.now) × (result < count rows.now) }
+    ensures { (result ≡ lowest_of rows.now) × (result < count rows.now) }
 {
     with_row(rows, full(rows.len() / 2))
 }
@@ -135,7 +135,7 @@ pub fn lowest(rows: &[u8]) -> usize
 // TOP: from level 0 on, up to each level above.
 pub fn highest(rows: &[u8]) -> usize
     requires { right rows.now ≡ true }
-    ensures { (result ≡ highestOf rows.now) × (result < count rows.now) }
+    ensures { (result ≡ highest_of rows.now) × (result < count rows.now) }
 {
     let n = rows.len() / 2;
     let mut found: usize = 0;

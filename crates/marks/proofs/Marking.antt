@@ -7,55 +7,55 @@ use mathlib.Core.List.{List}
 use borrow.Author.Tests.{ne_eqb}
 use Rattle.levels.specs.Levels.{count, below, right, join_of, meet_of}
 use Rattle.levels.specs.Lattice.{Lattice, lattice}
-use Rattle.levels.proofs.Joins.{join-above, join-idem}
+use Rattle.levels.proofs.Joins.{join_above, join_idem}
 use Rattle.levels.proofs.Laws.{laws, le-at, join-at, meet-at}
 use Rattle.levels.proofs.Facts.{facts}
-use Rattle.store.specs.Marks.{Mark, whole, partial, levelOf, isPartial, mark_of, strict, permissive, mode_of, markKnown}
+use Rattle.store.specs.Marks.{Mark, whole, partial, level_of, is_partial, mark_of, strict, permissive, mode_of, mark_known}
 use Rattle.store.proofs.Marks.{mark-whole, known_is, known_of}
-use Rattle.rules.specs.Ends.{notBelow, Try, fine, fails}
+use Rattle.rules.specs.Ends.{not_below, Try, fine, fails}
 use Rattle.rules.specs.LevelMarks.{joined, stored}
 
 -- a known mark joined with itself is itself
-mark-idem : (rows : List ℕ) → right rows ≡ true → (m : Mark) → levelOf m < count rows → joined (lattice rows) m m ≡ m
+mark_idem : (rows : List ℕ) → right rows ≡ true → (m : Mark) → level_of m < count rows → joined (lattice rows) m m ≡ m
 unfolding joined lattice
-mark-idem rows h (whole a) level = ap whole (join-idem (lattice rows) (laws rows h) a level)
-mark-idem rows h (partial a) level = ap partial (join-idem (lattice rows) (laws rows h) a level)
+mark_idem rows h (whole a) level = ap whole (join_idem (lattice rows) (laws rows h) a level)
+mark_idem rows h (partial a) level = ap partial (join_idem (lattice rows) (laws rows h) a level)
 
-pub joined_same : (rows : List ℕ) (byte : ℕ) → right rows ≡ true → markKnown (count rows) byte ≡ true → mark_of byte ≡ joined (lattice rows) (mark_of byte) (mark_of byte)
-joined_same rows byte h known = sym (mark-idem rows h (mark_of byte) (known_is _ byte known).1)
+pub joined_same : (rows : List ℕ) (byte : ℕ) → right rows ≡ true → mark_known (count rows) byte ≡ true → mark_of byte ≡ joined (lattice rows) (mark_of byte) (mark_of byte)
+joined_same rows byte h known = sym (mark_idem rows h (mark_of byte) (known_is _ byte known).1)
 
 -- joined with a level at or below its own, it is itself
-mark-above : (rows : List ℕ) → right rows ≡ true → (m : Mark) (context : ℕ) → levelOf m < count rows → (lattice rows).le context (levelOf m) ≡ true → joined (lattice rows) m (whole context) ≡ m
+mark_above : (rows : List ℕ) → right rows ≡ true → (m : Mark) (context : ℕ) → level_of m < count rows → (lattice rows).le context (level_of m) ≡ true → joined (lattice rows) m (whole context) ≡ m
 unfolding joined lattice
-mark-above rows h (whole a) context level below = ap whole (join-above (lattice rows) (laws rows h) a context level below)
-mark-above rows h (partial a) context level below = ap partial (join-above (lattice rows) (laws rows h) a context level below)
+mark_above rows h (whole a) context level below = ap whole (join_above (lattice rows) (laws rows h) a context level below)
+mark_above rows h (partial a) context level below = ap partial (join_above (lattice rows) (laws rows h) a context level below)
 
-pub joined-above : (rows : List ℕ) (byte context : ℕ) → right rows ≡ true → markKnown (count rows) byte ≡ true → (lattice rows).le context (levelOf (mark_of byte)) ≡ true
+pub joined_above : (rows : List ℕ) (byte context : ℕ) → right rows ≡ true → mark_known (count rows) byte ≡ true → (lattice rows).le context (level_of (mark_of byte)) ≡ true
     → mark_of byte ≡ joined (lattice rows) (mark_of byte) (whole context)
-joined-above rows byte context h known below = sym (mark-above rows h (mark_of byte) context (known_is _ byte known).1 below)
+joined_above rows byte context h known below = sym (mark_above rows h (mark_of byte) context (known_is _ byte known).1 below)
 
 -- the join of two marks, by their levels
 joined_is : (𝓛 : Lattice) (a b : Mark)
-    → joined 𝓛 a b ≡ cond (isPartial a || isPartial b) (partial (𝓛.join (levelOf a) (levelOf b))) (whole (𝓛.join (levelOf a) (levelOf b)))
+    → joined 𝓛 a b ≡ cond (is_partial a || is_partial b) (partial (𝓛.join (level_of a) (level_of b))) (whole (𝓛.join (level_of a) (level_of b)))
 unfolding joined
 joined_is 𝓛 (whole a) (whole b) = refl
 joined_is 𝓛 (whole a) (partial b) = refl
 joined_is 𝓛 (partial a) (whole b) = refl
 joined_is 𝓛 (partial a) (partial b) = refl
 
-module _ (rows : List ℕ) (m k : ℕ) (known-m : markKnown (count rows) m ≡ true) (known-k : markKnown (count rows) k ≡ true) (level : ℕ)
-    (is : level ≡ join_of rows (levelOf (mark_of m)) (levelOf (mark_of k))) where
-  join-level : level ≡ (lattice rows).join (levelOf (mark_of m)) (levelOf (mark_of k))
-  join-level = is ∙ sym (join-at rows _ _ (known_is _ m known-m).1 (known_is _ k known-k).1)
+module _ (rows : List ℕ) (m k : ℕ) (known_m : mark_known (count rows) m ≡ true) (known_k : mark_known (count rows) k ≡ true) (level : ℕ)
+    (is : level ≡ join_of rows (level_of (mark_of m)) (level_of (mark_of k))) where
+  join-level : level ≡ (lattice rows).join (level_of (mark_of m)) (level_of (mark_of k))
+  join-level = is ∙ sym (join-at rows _ _ (known_is _ m known_m).1 (known_is _ k known_k).1)
 
-  pub joined-whole : (isPartial (mark_of m) || isPartial (mark_of k)) ≡ false → whole level ≡ joined (lattice rows) (mark_of m) (mark_of k)
+  pub joined-whole : (is_partial (mark_of m) || is_partial (mark_of k)) ≡ false → whole level ≡ joined (lattice rows) (mark_of m) (mark_of k)
   joined-whole h = ap whole join-level ∙ sym (joined_is (lattice rows) (mark_of m) (mark_of k) ∙ rw h)
 
-  pub joined-partial : (isPartial (mark_of m) || isPartial (mark_of k)) ≡ true → partial level ≡ joined (lattice rows) (mark_of m) (mark_of k)
-  joined-partial h = ap partial join-level ∙ sym (joined_is (lattice rows) (mark_of m) (mark_of k) ∙ rw h)
+  pub joined_partial : (is_partial (mark_of m) || is_partial (mark_of k)) ≡ true → partial level ≡ joined (lattice rows) (mark_of m) (mark_of k)
+  joined_partial h = ap partial join-level ∙ sym (joined_is (lattice rows) (mark_of m) (mark_of k) ∙ rw h)
 
 -- a level as a mark's number is whole
-pub level-mark : (rows : List ℕ) → right rows ≡ true → (level : ℕ) → level < count rows → (mark_of level ≡ whole level) × (markKnown (count rows) level ≡ true) × (level < 16)
+pub level-mark : (rows : List ℕ) → right rows ≡ true → (level : ℕ) → level < count rows → (mark_of level ≡ whole level) × (mark_known (count rows) level ≡ true) × (level < 16)
 level-mark rows h level inside =
     let few = (facts rows h).few in
     let is = mark-whole level (omega arith) in
@@ -63,13 +63,13 @@ level-mark rows h level inside =
 
 -- ── what an assignment leaves ───────────────────────────────────────────────────────────────
 
-mode-strict : (number : ℕ) → number ≡ 0 → mode_of number ≡ strict
+mode_strict : (number : ℕ) → number ≡ 0 → mode_of number ≡ strict
 unfolding mode_of
-mode-strict number e = rw e
+mode_strict number e = rw e
 
-mode-permissive : (number : ℕ) → (number ≡ 0 → ⊥) → mode_of number ≡ permissive
+mode_permissive : (number : ℕ) → (number ≡ 0 → ⊥) → mode_of number ≡ permissive
 unfolding mode_of
-mode-permissive number n = rw (ne_eqb number 0 n)
+mode_permissive number n = rw (ne_eqb number 0 n)
 
 -- on a field of level A
 module _ (𝓛 : Lattice) (number context A : ℕ) (m : Mark) where
@@ -80,18 +80,18 @@ module _ (𝓛 : Lattice) (number context A : ℕ) (m : Mark) where
   unfolding stored
   stored-below h = rw h
 
-  pub stored-strict : 𝓛.le context A ≡ false → number ≡ 0 → leaves ≡ fails notBelow
+  pub stored-strict : 𝓛.le context A ≡ false → number ≡ 0 → leaves ≡ fails not_below
   unfolding stored
-  stored-strict h mode = rw (h, mode-strict number mode)
+  stored-strict h mode = rw (h, mode_strict number mode)
 
-  pub stored-permissive : 𝓛.le context A ≡ false → (number ≡ 0 → ⊥) → leaves ≡ fine (partial (𝓛.meet context A))
+  pub stored_permissive : 𝓛.le context A ≡ false → (number ≡ 0 → ⊥) → leaves ≡ fine (partial (𝓛.meet context A))
   unfolding stored
-  stored-permissive h mode = rw (h, mode-permissive number mode)
+  stored_permissive h mode = rw (h, mode_permissive number mode)
 
 -- in a context that is a level, on a field with a known mark
-module _ (rows : List ℕ) (context old : ℕ) (known-old : markKnown (count rows) old ≡ true) (level : context < count rows) where
-  pub order-at : (lattice rows).le context (levelOf (mark_of old)) ≡ below rows context (levelOf (mark_of old))
-  order-at = le-at rows _ _ level (known_is _ old known-old).1
+module _ (rows : List ℕ) (context old : ℕ) (known_old : mark_known (count rows) old ≡ true) (level : context < count rows) where
+  pub order-at : (lattice rows).le context (level_of (mark_of old)) ≡ below rows context (level_of (mark_of old))
+  order-at = le-at rows _ _ level (known_is _ old known_old).1
 
-  pub meet-level : (lattice rows).meet context (levelOf (mark_of old)) ≡ meet_of rows context (levelOf (mark_of old))
-  meet-level = meet-at rows _ _ level (known_is _ old known-old).1
+  pub meet-level : (lattice rows).meet context (level_of (mark_of old)) ≡ meet_of rows context (level_of (mark_of old))
+  meet-level = meet-at rows _ _ level (known_is _ old known_old).1

@@ -1,7 +1,7 @@
 // Marks that are levels, whole or partial: what a run over levels asks about them. A context is a level.
 ghost use Rattle.std.specs.Prelude.{◌≡◌};
 ghost use Rattle.levels.specs.Lattice.{lattice};
-ghost use Rattle.store.specs.Marks.{partial, levelOf, mark_of};
+ghost use Rattle.store.specs.Marks.{partial, level_of, mark_of};
 ghost use Rattle.rules.specs.LevelMarks.{joined};
 ghost use Rattle.marks.specs.Inside.Meanings.{TwoMarks, Over, StandsFor};
 
@@ -25,7 +25,7 @@ pub fn join(rows: &[u8], m: u32, k: u32) -> u32
 // Whether a context lies at or below the level of a field with the old mark.
 pub fn at_or_below(rows: &[u8], context: u32, old: u32) -> bool
     requires { Over rows.now context old }
-    ensures { result ≡ (lattice rows.now).le context (levelOf (mark_of old)) }
+    ensures { result ≡ (lattice rows.now).le context (level_of (mark_of old)) }
 {
     levels::at_or_below(rows, context as usize, level_of(old))
 }
@@ -33,7 +33,7 @@ pub fn at_or_below(rows: &[u8], context: u32, old: u32) -> bool
 // The meet of a context and the level of a field with the old mark, partial.
 pub fn lowered(rows: &[u8], context: u32, old: u32) -> u32
     requires { Over rows.now context old }
-    ensures { StandsFor rows.now (partial ((lattice rows.now).meet context (levelOf (mark_of old)))) result }
+    ensures { StandsFor rows.now (partial ((lattice rows.now).meet context (level_of (mark_of old)))) result }
 {
     partial_at(levels::meet(rows, context as usize, level_of(old)))
 }

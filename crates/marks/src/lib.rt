@@ -6,8 +6,8 @@ pub mod words;
 
 ghost use Rattle.std.specs.Prelude.{◌≡◌, true, map, ◌≤◌};
 ghost use Rattle.levels.specs.Levels.{right};
-ghost use Rattle.marks.specs.Inside.Parts.{rowsIn};
-ghost use Rattle.marks.specs.Inside.Words.{runIn, contextIn};
+ghost use Rattle.marks.specs.Inside.Parts.{rows_in};
+ghost use Rattle.marks.specs.Inside.Words.{run_in, context_in};
 ghost use Rattle.marks.specs.Inside.Meanings.{meaning, Constant, Sealed, Read, Joined, Entered, Stored, Joins, Enters, Stores, First};
 
 use basis::numbers;
@@ -19,40 +19,40 @@ pub const STRICT: u32 = 0;
 
 // The mark of a constant.
 pub fn constant(parts: &[&[u8]; 3], run: u32) -> u32
-    requires { (meaning (rowsIn (map (λ x. x.now) parts.now)) run).Askable }
-    ensures { Constant (meaning (rowsIn (map (λ x. x.now) parts.now)) run) result }
+    requires { (meaning (rows_in (map (λ x. x.now) parts.now)) run).Askable }
+    ensures { Constant (meaning (rows_in (map (λ x. x.now) parts.now)) run) result }
 {
     constant_mark(run)
 }
 
 // The mark of a seal, whatever stood there.
 pub fn sealed(parts: &[&[u8]; 3], run: u32) -> u32
-    requires { (meaning (rowsIn (map (λ x. x.now) parts.now)) run).Askable }
-    ensures { Sealed (meaning (rowsIn (map (λ x. x.now) parts.now)) run) result }
+    requires { (meaning (rows_in (map (λ x. x.now) parts.now)) run).Askable }
+    ensures { Sealed (meaning (rows_in (map (λ x. x.now) parts.now)) run) result }
 {
     seal_mark(run)
 }
 
 // The mark of field i read, by the mark that it carries.
 pub fn read(parts: &[&[u8]; 3], run: u32, i: usize, mark: u32) -> u32
-    requires { (meaning (rowsIn (map (λ x. x.now) parts.now)) run).KnownMark mark }
-    ensures { Read (meaning (rowsIn (map (λ x. x.now) parts.now)) run) i mark result }
+    requires { (meaning (rows_in (map (λ x. x.now) parts.now)) run).KnownMark mark }
+    ensures { Read (meaning (rows_in (map (λ x. x.now) parts.now)) run) i mark result }
 {
     mark
 }
 
 // The mark of an operator's result.
 pub fn join(parts: &[&[u8]; 3], run: u32, m: u32, k: u32) -> u32
-    requires { Joins (meaning (rowsIn (map (λ x. x.now) parts.now)) run) m k }
-    ensures { Joined (meaning (rowsIn (map (λ x. x.now) parts.now)) run) m k result }
+    requires { Joins (meaning (rows_in (map (λ x. x.now) parts.now)) run) m k }
+    ensures { Joined (meaning (rows_in (map (λ x. x.now) parts.now)) run) m k result }
 {
     level_marks::join(rows_in(parts), m, k)
 }
 
 // The context after the test at node n, or a stop. A test at the context's own level needs no rows.
 pub fn enter(parts: &[&[u8]; 3], task: u64, n: usize, m: u32) -> u64
-    requires { Enters (meaning (rowsIn (map (λ x. x.now) parts.now)) (runIn task)) n (contextIn task) m }
-    ensures { Entered (meaning (rowsIn (map (λ x. x.now) parts.now)) (runIn task)) n (contextIn task) m result }
+    requires { Enters (meaning (rows_in (map (λ x. x.now) parts.now)) (run_in task)) n (context_in task) m }
+    ensures { Entered (meaning (rows_in (map (λ x. x.now) parts.now)) (run_in task)) n (context_in task) m result }
 {
     let context = context_in(task);
     if m == context {
@@ -67,8 +67,8 @@ pub fn enter(parts: &[&[u8]; 3], task: u64, n: usize, m: u32) -> u64
 // The mark that the assignment at node n leaves on a field with the old mark, or a stop. A field at the context's own level needs no rows to say so,
 // nor does one that keeps its mark.
 pub fn store(parts: &[&[u8]; 3], task: u64, n: usize, old: u32, m: u32) -> u64
-    requires { Stores (meaning (rowsIn (map (λ x. x.now) parts.now)) (runIn task)) n (contextIn task) old m }
-    ensures { Stored (meaning (rowsIn (map (λ x. x.now) parts.now)) (runIn task)) n (contextIn task) old m result }
+    requires { Stores (meaning (rows_in (map (λ x. x.now) parts.now)) (run_in task)) n (context_in task) old m }
+    ensures { Stored (meaning (rows_in (map (λ x. x.now) parts.now)) (run_in task)) n (context_in task) old m result }
 {
     let rows = rows_in(parts);
     let context = context_in(task);

@@ -1,8 +1,8 @@
 // Numbers that hold several: a value with its mark, a stop, a task. So what recursive functions are given and answer is handed on in registers.
 // `Inside/Words` gives such numbers their meaning and lists their layouts; no other module knows them.
 ghost use Rattle.std.specs.Prelude.{◌≡◌, ◌<◌};
-ghost use Rattle.marks.specs.Inside.Words.{numberRoom, Place, valueIn, markIn, Word, Stops, leftIn, place_in, number_in, Stop, runIn, contextIn, InContext};
-ghost use Rattle.marks.specs.Inside.Meanings.{constantFrom, sealFrom, styleIn, constantIn, sealIn, Run};
+ghost use Rattle.marks.specs.Inside.Words.{number_room, Place, value_in, mark_in, Word, Stops, left_in, place_in, number_in, Stop, run_in, context_in, InContext};
+ghost use Rattle.marks.specs.Inside.Meanings.{constant_from, seal_from, style_in, constant_in, seal_in, Run};
 
 use value::Value;
 
@@ -33,21 +33,21 @@ pub fn word(v: Value, mark: u32) -> u64
 
 // The value in a word.
 pub fn value_in(word: u64) -> Value
-    ensures { result ≡ valueIn word }
+    ensures { result ≡ value_in word }
 {
     Value::of_bits((word % UPPER) as u32)
 }
 
 // The mark's number in a word.
 pub fn mark_in(word: u64) -> u32
-    ensures { result ≡ markIn word }
+    ensures { result ≡ mark_in word }
 {
     (word / UPPER) as u32
 }
 
 // Why and where a run stops.
 pub fn stop(number: u8, place: usize) -> u64
-    requires { (number < numberRoom) × Place place }
+    requires { (number < number_room) × Place place }
     ensures { Stop number place 0 result }
 {
     STOP + number as u64 * NUMBER + place as u64 * UPPER
@@ -75,26 +75,26 @@ pub fn place_told(word: u64) -> u16
 }
 
 pub fn left_in(word: u64) -> u32
-    ensures { result ≡ leftIn word }
+    ensures { result ≡ left_in word }
 {
     (word % UPPER) as u32
 }
 
 // A task: a run in a context.
 pub fn task(run: u32, context: u32) -> u64
-    ensures { (runIn result ≡ run) × (contextIn result ≡ context) }
+    ensures { (run_in result ≡ run) × (context_in result ≡ context) }
 {
     run as u64 + context as u64 * UPPER
 }
 
 pub fn run_in(task: u64) -> u32
-    ensures { result ≡ runIn task }
+    ensures { result ≡ run_in task }
 {
     (task % UPPER) as u32
 }
 
 pub fn context_in(task: u64) -> u32
-    ensures { result ≡ contextIn task }
+    ensures { result ≡ context_in task }
 {
     (task / UPPER) as u32
 }
@@ -108,26 +108,26 @@ pub fn in_context(task: u64, context: u32) -> u64
 
 // A run's own number: its style, the mark of a constant and the mark of a seal.
 pub fn run_of(style: u32, constant: u32, seal: u32) -> u32
-    requires { (style < constantFrom) × (constant < constantFrom) × (seal < sealFrom) }
+    requires { (style < constant_from) × (constant < constant_from) × (seal < seal_from) }
     ensures { Run style constant seal result }
 {
     style + constant * CONSTANT + seal * SEAL
 }
 
 pub fn style_in(run: u32) -> u32
-    ensures { result ≡ styleIn run }
+    ensures { result ≡ style_in run }
 {
     run % CONSTANT
 }
 
 pub fn constant_mark(run: u32) -> u32
-    ensures { result ≡ constantIn run }
+    ensures { result ≡ constant_in run }
 {
     run / CONSTANT % CONSTANT
 }
 
 pub fn seal_mark(run: u32) -> u32
-    ensures { result ≡ sealIn run }
+    ensures { result ≡ seal_in run }
 {
     run / SEAL
 }

@@ -3,42 +3,42 @@ use Rattle.std.specs.Prelude.{Bool, not, ◌&&◌, ◌||◌, List, ℕ, ◌+◌,
 use Rattle.basis.specs.Tests.{all}
 
 -- byte j of name i
-abbrev pub nameByte : List ℕ → ℕ → ℕ → ℕ
-nameByte s i j = get_or s (i * 8 + j) 0
+abbrev pub name_byte : List ℕ → ℕ → ℕ → ℕ
+name_byte s i j = get_or s (i * 8 + j) 0
 
 abbrev pub NameIn : List ℕ → ℕ → Type 0
 NameIn s i = i * 8 + 8 ≤ length s
 
 -- a to z
-abbrev pub isLetter : ℕ → Bool
-isLetter b = leb 97 b && leb b 122
+abbrev pub is_letter : ℕ → Bool
+is_letter b = leb 97 b && leb b 122
 
 -- 0 to 9
-abbrev pub isDigit : ℕ → Bool
-isDigit b = leb 48 b && leb b 57
+abbrev pub is_digit : ℕ → Bool
+is_digit b = leb 48 b && leb b 57
 
 -- a to z, 0 to 9 or _
-unfoldable pub isInner : ℕ → Bool
-isInner b = isLetter b || isDigit b || eqb b 95
+unfoldable pub is_inner : ℕ → Bool
+is_inner b = is_letter b || is_digit b || eqb b 95
 
 -- byte b may stand after byte a: filled with zero bytes, so after a zero byte stands another
-unfoldable pub mayFollow : ℕ → ℕ → Bool
-mayFollow a b = eqb b 0 || (not (eqb a 0) && isInner b)
+unfoldable pub may_follow : ℕ → ℕ → Bool
+may_follow a b = eqb b 0 || (not (eqb a 0) && is_inner b)
 
-abbrev pub followsAt : List ℕ → ℕ → ℕ → Bool
-followsAt s i j = mayFollow (nameByte s i j) (nameByte s i (j + 1))
+abbrev pub follows_at : List ℕ → ℕ → ℕ → Bool
+follows_at s i j = may_follow (name_byte s i j) (name_byte s i (j + 1))
 
 -- a to z first, then as above
-unfoldable pub goodName : List ℕ → ℕ → Bool
-goodName s i = isLetter (get_or s (i * 8) 0) && all 7 (followsAt s i)
+unfoldable pub good_name : List ℕ → ℕ → Bool
+good_name s i = is_letter (get_or s (i * 8) 0) && all 7 (follows_at s i)
 
-unfoldable pub sameName : List ℕ → ℕ → ℕ → Bool
-sameName s i k = all 8 (λ j. eqb (nameByte s i j) (nameByte s k j))
+unfoldable pub same_name : List ℕ → ℕ → ℕ → Bool
+same_name s i k = all 8 (λ j. eqb (name_byte s i j) (name_byte s k j))
 
 -- no name twice: name i is none of those before it
-unfoldable pub newName : List ℕ → ℕ → Bool
-newName s i = all i (λ k. not (sameName s k i))
+unfoldable pub new_name : List ℕ → ℕ → Bool
+new_name s i = all i (λ k. not (same_name s k i))
 
 -- 4: a bad or repeated name
-unfoldable pub namesRight : List ℕ → Bool
-namesRight s = all (length s / 8) (λ i. goodName s i && newName s i)
+unfoldable pub names_right : List ℕ → Bool
+names_right s = all (length s / 8) (λ i. good_name s i && new_name s i)

@@ -11,14 +11,14 @@ use borrow.Author.Tests.{leb-true, ltb-true, eqb-true, eq-eqb, lt-leb}
 use lib.Dec.{eqb, leb, ltb}
 use Rattle.basis.specs.Tests.{all}
 use Rattle.basis.proofs.Tests.{both, split, all-at, all_same, all_both}
-use Rattle.sections.specs.Verdict.{passesOf, ◌then◌}
-use Rattle.nodes.specs.Nodes.{In, nodeCount, kind_at, opAt, slot_at, heldIn, isChild, known, operatorZero, zeroIn, rangeRight, sortRight, slotRight, slotsRight, nodeVerdict, verdictBelow, nodesVerdict}
+use Rattle.sections.specs.Verdict.{passes_of, ◌then◌}
+use Rattle.nodes.specs.Nodes.{In, node_count, kind_at, op_at, slot_at, held_in, is_child, known, operator_zero, zero_in, range_right, sort_right, slot_right, slots_right, node_verdict, verdict_below, nodes_verdict}
 use Rattle.nodes.specs.Inside.Formed.{Holds, WellFormed}
 use Rattle.nodes.specs.declared.Held.{Held}
 use Rattle.nodes.specs.declared.Held.TheVariants.{Nothing, Constant, Field, Expression, Command}
 use Rattle.sections.specs.declared.verdict.Fault.TheVariants.{Unknown, Unused, Range, Sort}
 use Rattle.sections.specs.declared.verdict.Verdict.TheVariants.{Passes, Node}
-use Rattle.sections.proofs.Verdicts.{then_next, then-first, both-pass, told-then, told-last, Placed, told-placed, then-placed}
+use Rattle.sections.proofs.Verdicts.{then_next, then_first, both_pass, told_then, told_last, Placed, told-placed, then_placed}
 
 -- a kind and an operator that are known
 known_is : (kind op : ℕ) → known kind op ≡ true → (kind ≤ 9) × (kind ≡ 2 → op ≤ 9)
@@ -31,32 +31,32 @@ module _ (s : List ℕ) (fields constants : ℕ) where
   -- ── a node judged ─────────────────────────────────────────────────────────────────────────
 
   module _ (n : ℕ) where
-    pub told-unknown : known (kind_at s n) (opAt s n) ≡ false → Node Unknown n ≡ nodeVerdict s fields constants n
-    unfolding nodeVerdict ◌then◌
-    told-unknown e = simp e
+    pub told_unknown : known (kind_at s n) (op_at s n) ≡ false → Node Unknown n ≡ node_verdict s fields constants n
+    unfolding node_verdict ◌then◌
+    told_unknown e = simp e
 
-    module _ (kn : known (kind_at s n) (opAt s n) ≡ true) where
-      pub told-operator : operatorZero (kind_at s n) (opAt s n) ≡ false → Node Unused n ≡ nodeVerdict s fields constants n
-      unfolding nodeVerdict ◌then◌
+    module _ (kn : known (kind_at s n) (op_at s n) ≡ true) where
+      pub told-operator : operator_zero (kind_at s n) (op_at s n) ≡ false → Node Unused n ≡ node_verdict s fields constants n
+      unfolding node_verdict ◌then◌
       told-operator e = simp (kn, e)
 
-      module _ (op : operatorZero (kind_at s n) (opAt s n) ≡ true) where
-        pub told-unused : slotsRight s fields constants n Unused ≡ false → Node Unused n ≡ nodeVerdict s fields constants n
-        unfolding nodeVerdict ◌then◌
-        told-unused e = simp (kn, op, e)
+      module _ (op : operator_zero (kind_at s n) (op_at s n) ≡ true) where
+        pub told_unused : slots_right s fields constants n Unused ≡ false → Node Unused n ≡ node_verdict s fields constants n
+        unfolding node_verdict ◌then◌
+        told_unused e = simp (kn, op, e)
 
-        module _ (unused : slotsRight s fields constants n Unused ≡ true) where
-          pub told-range : slotsRight s fields constants n Range ≡ false → Node Range n ≡ nodeVerdict s fields constants n
-          unfolding nodeVerdict ◌then◌
-          told-range e = simp (kn, op, unused, e)
+        module _ (unused : slots_right s fields constants n Unused ≡ true) where
+          pub told_range : slots_right s fields constants n Range ≡ false → Node Range n ≡ node_verdict s fields constants n
+          unfolding node_verdict ◌then◌
+          told_range e = simp (kn, op, unused, e)
 
-          module _ (range : slotsRight s fields constants n Range ≡ true) where
-            pub told-sort : slotsRight s fields constants n Sort ≡ false → Node Sort n ≡ nodeVerdict s fields constants n
-            unfolding nodeVerdict ◌then◌
+          module _ (range : slots_right s fields constants n Range ≡ true) where
+            pub told-sort : slots_right s fields constants n Sort ≡ false → Node Sort n ≡ node_verdict s fields constants n
+            unfolding node_verdict ◌then◌
             told-sort e = simp (kn, op, unused, range, e)
 
-            pub told_none : slotsRight s fields constants n Sort ≡ true → Passes ≡ nodeVerdict s fields constants n
-            unfolding nodeVerdict ◌then◌
+            pub told_none : slots_right s fields constants n Sort ≡ true → Passes ≡ node_verdict s fields constants n
+            unfolding node_verdict ◌then◌
             told_none e = simp (kn, op, unused, range, e)
 
     -- a slot is free of every fault
@@ -70,41 +70,41 @@ module _ (s : List ℕ) (fields constants : ℕ) where
     lower-first : (w : ℕ) (sort : Bool) → (ltb w n && sort) ≡ (ltb w n && (leb n w || sort))
     lower-first w sort = split (ltb w n) (λ e. rw (lt-leb n w (ltb-true w n e))) (λ e. rw e)
 
-    free-is : (h : Held) (w : ℕ) → free h w ≡ (zeroIn h w && (rangeRight fields constants n h w && sortRight s n h w))
-    free-is Nothing w = simp (or-true, and-true)
-    free-is Constant w = simp (or-true, and-true)
-    free-is Field w = simp (or-true, and-true)
-    free-is Expression w = lower-first w _
-    free-is Command w = lower-first w _
+    free_is : (h : Held) (w : ℕ) → free h w ≡ (zero_in h w && (range_right fields constants n h w && sort_right s n h w))
+    free_is Nothing w = simp (or-true, and-true)
+    free_is Constant w = simp (or-true, and-true)
+    free_is Field w = simp (or-true, and-true)
+    free_is Expression w = lower-first w _
+    free_is Command w = lower-first w _
 
     -- a node passes whose kind and operator are right, and whose slots are free
-    abbrev slotsFree : Bool
-    slotsFree = all 3 (λ k. free (heldIn (kind_at s n) k) (slot_at s n k))
+    abbrev slots_free : Bool
+    slots_free = all 3 (λ k. free (held_in (kind_at s n) k) (slot_at s n k))
 
-    free-of-each : slotsFree ≡ (slotsRight s fields constants n Unused && (slotsRight s fields constants n Range && slotsRight s fields constants n Sort))
-    unfolding slotsRight slotRight
-    free-of-each =
-        all_same 3 _ _ (λ k l. free-is (heldIn (kind_at s n) k) (slot_at s n k))
+    free_of_each : slots_free ≡ (slots_right s fields constants n Unused && (slots_right s fields constants n Range && slots_right s fields constants n Sort))
+    unfolding slots_right slot_right
+    free_of_each =
+        all_same 3 _ _ (λ k l. free_is (held_in (kind_at s n) k) (slot_at s n k))
         ∙ all_both 3 _ _
-        ∙ ap (λ (b : Bool). slotsRight s fields constants n Unused && b) (all_both 3 _ _)
+        ∙ ap (λ (b : Bool). slots_right s fields constants n Unused && b) (all_both 3 _ _)
 
-    pub passes-node : passesOf (nodeVerdict s fields constants n) ≡ (known (kind_at s n) (opAt s n) && operatorZero (kind_at s n) (opAt s n) && slotsFree)
-    unfolding nodeVerdict
+    pub passes-node : passes_of (node_verdict s fields constants n) ≡ (known (kind_at s n) (op_at s n) && operator_zero (kind_at s n) (op_at s n) && slots_free)
+    unfolding node_verdict
     passes-node =
-        rw (told-then _ (Node Unknown n) _ refl, told-then _ (Node Unused n) _ refl, told-then _ (Node Range n) _ refl, told-last _ (Node Sort n) refl, free-of-each)
+        rw (told_then _ (Node Unknown n) _ refl, told_then _ (Node Unused n) _ refl, told_then _ (Node Range n) _ refl, told_last _ (Node Sort n) refl, free_of_each)
         (simp and_assoc)
 
-    pub right : passesOf (nodeVerdict s fields constants n) ≡ true
-        → (known (kind_at s n) (opAt s n) ≡ true) × ((k : ℕ) → k < 3 → free (heldIn (kind_at s n) k) (slot_at s n k) ≡ true)
+    pub right : passes_of (node_verdict s fields constants n) ≡ true
+        → (known (kind_at s n) (op_at s n) ≡ true) × ((k : ℕ) → k < 3 → free (held_in (kind_at s n) k) (slot_at s n k) ≡ true)
     right e =
-        let h = both (known (kind_at s n) (opAt s n) && operatorZero (kind_at s n) (opAt s n)) slotsFree (sym passes-node ∙ e) in
-        ((both (known (kind_at s n) (opAt s n)) (operatorZero (kind_at s n) (opAt s n)) h.0).0, all-at 3 _ h.1)
+        let h = both (known (kind_at s n) (op_at s n) && operator_zero (kind_at s n) (op_at s n)) slots_free (sym passes-node ∙ e) in
+        ((both (known (kind_at s n) (op_at s n)) (operator_zero (kind_at s n) (op_at s n)) h.0).0, all-at 3 _ h.1)
 
     -- its children are lower
-    pub child-lower : passesOf (nodeVerdict s fields constants n) ≡ true → (k : ℕ) → k < 3 → isChild (heldIn (kind_at s n) k) ≡ true → slot_at s n k < n
-    child-lower e k l = go (heldIn (kind_at s n) k) ((right e).1 k l)
+    pub child_lower : passes_of (node_verdict s fields constants n) ≡ true → (k : ℕ) → k < 3 → is_child (held_in (kind_at s n) k) ≡ true → slot_at s n k < n
+    child_lower e k l = go (held_in (kind_at s n) k) ((right e).1 k l)
       where
-        go : (h : Held) → free h (slot_at s n k) ≡ true → isChild h ≡ true → slot_at s n k < n
+        go : (h : Held) → free h (slot_at s n k) ≡ true → is_child h ≡ true → slot_at s n k < n
         go Nothing f child = absurd (false≢true child)
         go Constant f child = absurd (false≢true child)
         go Field f child = absurd (false≢true child)
@@ -113,49 +113,49 @@ module _ (s : List ℕ) (fields constants : ℕ) where
 
   -- ── the lowest node first ─────────────────────────────────────────────────────────────────
 
-  pub none_below : verdictBelow s fields constants 0 ≡ Passes
-  unfolding verdictBelow
+  pub none_below : verdict_below s fields constants 0 ≡ Passes
+  unfolding verdict_below
   none_below = refl
 
-  pub one_more : (n : ℕ) → verdictBelow s fields constants n ≡ Passes → nodeVerdict s fields constants n ≡ Passes → verdictBelow s fields constants (n + 1) ≡ Passes
-  unfolding verdictBelow ◌then◌
+  pub one_more : (n : ℕ) → verdict_below s fields constants n ≡ Passes → node_verdict s fields constants n ≡ Passes → verdict_below s fields constants (n + 1) ≡ Passes
+  unfolding verdict_below ◌then◌
   one_more n below here = rw (add-one n) (rw (below, here))
 
   -- where the nodes below n pass and n does not, n is told, however many follow
-  pub first-told : (count n : ℕ) → n < count → verdictBelow s fields constants n ≡ Passes → passesOf (nodeVerdict s fields constants n) ≡ false
-      → verdictBelow s fields constants count ≡ nodeVerdict s fields constants n
-  unfolding verdictBelow
+  pub first-told : (count n : ℕ) → n < count → verdict_below s fields constants n ≡ Passes → passes_of (node_verdict s fields constants n) ≡ false
+      → verdict_below s fields constants count ≡ node_verdict s fields constants n
+  unfolding verdict_below
   first-told zero n h below here = absurd (omega arith)
   first-told (suc count) n h below here =
       let at_most : n ≤ count = omega arith in
       ⊎_elim
-      (λ same. ap (λ (k : ℕ). verdictBelow s fields constants (suc k)) (sym same) ∙ then_next _ _ below)
-      (λ lower. let told = first-told count n lower below here in then-first _ _ (ap passesOf told ∙ here) ∙ told)
+      (λ same. ap (λ (k : ℕ). verdict_below s fields constants (suc k)) (sym same) ∙ then_next _ _ below)
+      (λ lower. let told = first-told count n lower below here in then_first _ _ (ap passes_of told ∙ here) ∙ told)
       (eq-or-lt_of_le at_most)
 
   -- where all pass, each does
-  each-passes : (count : ℕ) → verdictBelow s fields constants count ≡ Passes → (n : ℕ) → n < count → nodeVerdict s fields constants n ≡ Passes
-  unfolding verdictBelow
+  each-passes : (count : ℕ) → verdict_below s fields constants count ≡ Passes → (n : ℕ) → n < count → node_verdict s fields constants n ≡ Passes
+  unfolding verdict_below
   each-passes zero e n h = absurd (omega arith)
   each-passes (suc count) e n h =
       let at_most : n ≤ count = omega arith in
-      let p = both-pass _ _ e in
-      ⊎_elim (λ same. ap (nodeVerdict s fields constants) same ∙ p.1) (λ lower. each-passes count p.0 n lower) (eq-or-lt_of_le at_most)
+      let p = both_pass _ _ e in
+      ⊎_elim (λ same. ap (node_verdict s fields constants) same ∙ p.1) (λ lower. each-passes count p.0 n lower) (eq-or-lt_of_le at_most)
 
   -- the place of what is told is the number of one of the nodes
   module _ (few : ℕ) (some : 0 < few) where
-    node-placed : (n : ℕ) → n < few → Placed few (nodeVerdict s fields constants n)
-    unfolding nodeVerdict
+    node-placed : (n : ℕ) → n < few → Placed few (node_verdict s fields constants n)
+    unfolding node_verdict
     node-placed n h =
-        then-placed few _ _ (told-placed few (known (kind_at s n) (opAt s n)) (Node Unknown n) some h)
-        (λ _. then-placed few _ _ (told-placed few (operatorZero (kind_at s n) (opAt s n) && slotsRight s fields constants n Unused) (Node Unused n) some h)
-        (λ _. then-placed few _ _ (told-placed few (slotsRight s fields constants n Range) (Node Range n) some h)
-        (λ _. told-placed few (slotsRight s fields constants n Sort) (Node Sort n) some h)))
+        then_placed few _ _ (told-placed few (known (kind_at s n) (op_at s n)) (Node Unknown n) some h)
+        (λ _. then_placed few _ _ (told-placed few (operator_zero (kind_at s n) (op_at s n) && slots_right s fields constants n Unused) (Node Unused n) some h)
+        (λ _. then_placed few _ _ (told-placed few (slots_right s fields constants n Range) (Node Range n) some h)
+        (λ _. told-placed few (slots_right s fields constants n Sort) (Node Sort n) some h)))
 
-    pub nodes-placed : (count : ℕ) → count ≤ few → Placed few (verdictBelow s fields constants count)
-    unfolding verdictBelow
+    pub nodes-placed : (count : ℕ) → count ≤ few → Placed few (verdict_below s fields constants count)
+    unfolding verdict_below
     nodes-placed zero h = some
-    nodes-placed (suc n) h = then-placed few _ _ (nodes-placed n (omega arith)) (λ _. node-placed n h)
+    nodes-placed (suc n) h = then_placed few _ _ (nodes-placed n (omega arith)) (λ _. node-placed n h)
 
   -- ── well formed ───────────────────────────────────────────────────────────────────────────
 
@@ -172,12 +172,12 @@ module _ (s : List ℕ) (fields constants : ℕ) where
       let lower = ltb-true w n h.0 in
       record { lower = lower; least = ltb-true 4 (kind_at s w) h.1; most = kinds w lower }
 
-  pub well-formed : nodesVerdict s fields constants ≡ Passes → WellFormed s fields constants
-  well-formed e =
-      let passes : (n : ℕ) → In s n → nodeVerdict s fields constants n ≡ Passes = λ n i. each-passes (nodeCount s) e n (omega arith) in
-      let known-each : (n : ℕ) → In s n → (kind_at s n ≤ 9) × (kind_at s n ≡ 2 → opAt s n ≤ 9) = λ n i. known_is _ _ (right n (ap passesOf (passes n i))).0 in
+  pub well_formed : nodes_verdict s fields constants ≡ Passes → WellFormed s fields constants
+  well_formed e =
+      let passes : (n : ℕ) → In s n → node_verdict s fields constants n ≡ Passes = λ n i. each-passes (node_count s) e n (omega arith) in
+      let known-each : (n : ℕ) → In s n → (kind_at s n ≤ 9) × (kind_at s n ≡ 2 → op_at s n ≤ 9) = λ n i. known_is _ _ (right n (ap passes_of (passes n i))).0 in
       record {
         kind = λ n i. (known-each n i).0;
         operator = λ n i. (known-each n i).1;
-        slots = λ n k i l. holds n (λ w h. (known-each w (omega arith)).0) (heldIn (kind_at s n) k) (slot_at s n k) ((right n (ap passesOf (passes n i))).1 k l);
+        slots = λ n k i l. holds n (λ w h. (known-each w (omega arith)).0) (held_in (kind_at s n) k) (slot_at s n k) ((right n (ap passes_of (passes n i))).1 k l);
       }

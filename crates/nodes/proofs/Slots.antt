@@ -10,7 +10,7 @@ use lib.Dec.{eqb, leb}
 use lib.ListN.{get_or, get_or-eq_default}
 use Rattle.basis.specs.Tests.{all}
 use Rattle.basis.proofs.Tests.{split, all-at}
-use Rattle.nodes.specs.Nodes.{kinds, heldIn}
+use Rattle.nodes.specs.Nodes.{kinds, held_in}
 use Rattle.nodes.specs.Inside.Rows.{row_of}
 use Rattle.nodes.specs.declared.Held.{Held}
 use Rattle.nodes.specs.declared.Held.TheVariants.{Nothing, Constant, Field, Expression, Command}
@@ -34,33 +34,33 @@ held_back Expression = refl
 held_back Command = refl
 
 -- what the digits of the code's rows stand for is what the slots hold
-digits-right : all 30 (λ i. eqb (row_of (i / 3) / 2 ^ (i % 3 * 3) % 8) (code_of (heldIn (i / 3) (i % 3)))) ≡ true
-unfolding all row_of heldIn kinds
-digits-right = refl
+digits_right : all 30 (λ i. eqb (row_of (i / 3) / 2 ^ (i % 3 * 3) % 8) (code_of (held_in (i / 3) (i % 3)))) ≡ true
+unfolding all row_of held_in kinds
+digits_right = refl
 
 -- no other kind has a row, nor holds anything
-pub row-past : (kind : ℕ) → 10 ≤ kind → 0 ≡ row_of kind
+pub row_past : (kind : ℕ) → 10 ≤ kind → 0 ≡ row_of kind
 unfolding row_of
-row-past kind h = let none : ℕ = 0 in rw (get_or-eq_default _ none h)
+row_past kind h = let none : ℕ = 0 in rw (get_or-eq_default _ none h)
 
-held-past : (kind k : ℕ) → 10 ≤ kind → Nothing ≡ heldIn kind k
-unfolding heldIn kinds
-held-past kind k h = ap (λ (l : List Held). get_or l k Nothing) (sym (get_or-eq_default kinds [] h))
+held_past : (kind k : ℕ) → 10 ≤ kind → Nothing ≡ held_in kind k
+unfolding held_in kinds
+held_past kind k h = ap (λ (l : List Held). get_or l k Nothing) (sym (get_or-eq_default kinds [] h))
 
-pub held-is : (kind k : ℕ) → k < 3 → held_of (row_of kind / 2 ^ (k * 3) % 8) ≡ heldIn kind k
-held-is kind k l =
+pub held_is : (kind k : ℕ) → k < 3 → held_of (row_of kind / 2 ^ (k * 3) % 8) ≡ held_in kind k
+held_is kind k l =
     split (leb kind 9)
     (λ e.
     let few : kind ≤ 9 = leb-true _ _ e in
     let i : ℕ = kind * 3 + k in
-    let tested : eqb (row_of (i / 3) / 2 ^ (i % 3 * 3) % 8) (code_of (heldIn (i / 3) (i % 3))) ≡ true = all-at 30 _ digits-right i (omega arith) in
-    let digit = eqb-true (row_of (i / 3) / 2 ^ (i % 3 * 3) % 8) (code_of (heldIn (i / 3) (i % 3))) tested in
+    let tested : eqb (row_of (i / 3) / 2 ^ (i % 3 * 3) % 8) (code_of (held_in (i / 3) (i % 3))) ≡ true = all-at 30 _ digits_right i (omega arith) in
+    let digit = eqb-true (row_of (i / 3) / 2 ^ (i % 3 * 3) % 8) (code_of (held_in (i / 3) (i % 3))) tested in
     let kind-is : i / 3 ≡ kind = omega arith in
     let slot_is : i % 3 ≡ k = omega arith in
     ap held_of (rw (kind-is, slot_is) at digit) ∙ held_back _)
     (λ e.
     let past : 10 ≤ kind = leb-false _ _ e in
-    ap (λ (row : ℕ). held_of (row / 2 ^ (k * 3) % 8)) (sym (row-past kind past)) ∙ ap (λ (n : ℕ). held_of (n % 8)) (zero-div (2 ^ (k * 3))) ∙ held-past kind k past)
+    ap (λ (row : ℕ). held_of (row / 2 ^ (k * 3) % 8)) (sym (row_past kind past)) ∙ ap (λ (n : ℕ). held_of (n % 8)) (zero-div (2 ^ (k * 3))) ∙ held_past kind k past)
 
 -- no other digit holds anything
 pub held_none : (code : ℕ) → (code ≡ 1 → ⊥) → (code ≡ 2 → ⊥) → (code ≡ 3 → ⊥) → (code ≡ 4 → ⊥) → Nothing ≡ held_of code

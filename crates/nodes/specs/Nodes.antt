@@ -10,8 +10,8 @@ use Rattle.sections.specs.declared.verdict.Fault.TheVariants.{Unknown, Unused, R
 use Rattle.sections.specs.declared.verdict.Verdict.{Verdict}
 use Rattle.sections.specs.declared.verdict.Verdict.TheVariants.{Passes, Node}
 
-abbrev pub nodeCount : List ℕ → ℕ
-nodeCount s = length s / 8
+abbrev pub node_count : List ℕ → ℕ
+node_count s = length s / 8
 
 -- node n lies whole in s
 abbrev pub In : List ℕ → ℕ → Type 0
@@ -21,8 +21,8 @@ In s n = n * 8 + 8 ≤ length s
 abbrev pub kind_at : List ℕ → ℕ → ℕ
 kind_at s n = get_or s (n * 8) 0
 
-abbrev pub opAt : List ℕ → ℕ → ℕ
-opAt s n = get_or s (n * 8 + 1) 0
+abbrev pub op_at : List ℕ → ℕ → ℕ
+op_at s n = get_or s (n * 8 + 1) 0
 
 abbrev pub slot_at : List ℕ → ℕ → ℕ → ℕ
 slot_at s n k = word_at s (n * 8 + 2 + k * 2)
@@ -43,75 +43,75 @@ kinds =
     ∷ []
 
 -- what slot k of a kind holds; other slots are unused
-unfoldable pub heldIn : ℕ → ℕ → Held
-heldIn kind k = get_or (get_or kinds kind []) k Nothing
+unfoldable pub held_in : ℕ → ℕ → Held
+held_in kind k = get_or (get_or kinds kind []) k Nothing
 
-abbrev pub isChild : Held → Bool
-isChild Nothing = false
-isChild Constant = false
-isChild Field = false
-isChild Expression = true
-isChild Command = true
+abbrev pub is_child : Held → Bool
+is_child Nothing = false
+is_child Constant = false
+is_child Field = false
+is_child Expression = true
+is_child Command = true
 
 -- kinds 0 to 9; operators 0 to 9
 unfoldable pub known : ℕ → ℕ → Bool
 known kind op = leb kind 9 && (not (eqb kind 2) || leb op 9)
 
 -- the operator byte is 0 in other kinds
-unfoldable pub operatorZero : ℕ → ℕ → Bool
-operatorZero kind op = eqb kind 2 || eqb op 0
+unfoldable pub operator_zero : ℕ → ℕ → Bool
+operator_zero kind op = eqb kind 2 || eqb op 0
 
 -- unused places are 0
-abbrev pub zeroIn : Held → ℕ → Bool
-zeroIn Nothing w = eqb w 0
-zeroIn Constant w = true
-zeroIn Field w = true
-zeroIn Expression w = true
-zeroIn Command w = true
+abbrev pub zero_in : Held → ℕ → Bool
+zero_in Nothing w = eqb w 0
+zero_in Constant w = true
+zero_in Field w = true
+zero_in Expression w = true
+zero_in Command w = true
 
 -- an index is in range; a child's number is lower than its parent's, n
-abbrev pub rangeRight : ℕ → ℕ → ℕ → Held → ℕ → Bool
-rangeRight fields constants n Nothing w = true
-rangeRight fields constants n Constant w = ltb w constants
-rangeRight fields constants n Field w = ltb w fields
-rangeRight fields constants n Expression w = ltb w n
-rangeRight fields constants n Command w = ltb w n
+abbrev pub range_right : ℕ → ℕ → ℕ → Held → ℕ → Bool
+range_right fields constants n Nothing w = true
+range_right fields constants n Constant w = ltb w constants
+range_right fields constants n Field w = ltb w fields
+range_right fields constants n Expression w = ltb w n
+range_right fields constants n Command w = ltb w n
 
 -- a child's sort, by its kind
-abbrev pub ofSort : Held → ℕ → Bool
-ofSort Nothing kind = true
-ofSort Constant kind = true
-ofSort Field kind = true
-ofSort Expression kind = leb kind 4
-ofSort Command kind = ltb 4 kind
+abbrev pub of_sort : Held → ℕ → Bool
+of_sort Nothing kind = true
+of_sort Constant kind = true
+of_sort Field kind = true
+of_sort Expression kind = leb kind 4
+of_sort Command kind = ltb 4 kind
 
 -- of a child that is lower
-abbrev pub sortRight : List ℕ → ℕ → Held → ℕ → Bool
-sortRight s n held w = leb n w || ofSort held (kind_at s w)
+abbrev pub sort_right : List ℕ → ℕ → Held → ℕ → Bool
+sort_right s n held w = leb n w || of_sort held (kind_at s w)
 
 -- a slot of node n is free of a fault
-unfoldable pub slotRight : List ℕ → ℕ → ℕ → ℕ → Fault → Held → ℕ → Bool
-slotRight s fields constants n Unknown held w = true
-slotRight s fields constants n Unused held w = zeroIn held w
-slotRight s fields constants n Range held w = rangeRight fields constants n held w
-slotRight s fields constants n Sort held w = sortRight s n held w
+unfoldable pub slot_right : List ℕ → ℕ → ℕ → ℕ → Fault → Held → ℕ → Bool
+slot_right s fields constants n Unknown held w = true
+slot_right s fields constants n Unused held w = zero_in held w
+slot_right s fields constants n Range held w = range_right fields constants n held w
+slot_right s fields constants n Sort held w = sort_right s n held w
 
-unfoldable pub slotsRight : List ℕ → ℕ → ℕ → ℕ → Fault → Bool
-slotsRight s fields constants n fault = all 3 (λ k. slotRight s fields constants n fault (heldIn (kind_at s n) k) (slot_at s n k))
+unfoldable pub slots_right : List ℕ → ℕ → ℕ → ℕ → Fault → Bool
+slots_right s fields constants n fault = all 3 (λ k. slot_right s fields constants n fault (held_in (kind_at s n) k) (slot_at s n k))
 
 -- 19, 20, 21, 22, within a node in this order: unknown kind or operator; an unused place, or the operator byte in a kind without one, not 0; child or
 -- index number out of range or not lower; child of the wrong sort
-unfoldable pub nodeVerdict : List ℕ → ℕ → ℕ → ℕ → Verdict
-nodeVerdict s fields constants n =
-    told (known (kind_at s n) (opAt s n)) (Node Unknown n)
-    then told (operatorZero (kind_at s n) (opAt s n) && slotsRight s fields constants n Unused) (Node Unused n)
-    then told (slotsRight s fields constants n Range) (Node Range n)
-    then told (slotsRight s fields constants n Sort) (Node Sort n)
+unfoldable pub node_verdict : List ℕ → ℕ → ℕ → ℕ → Verdict
+node_verdict s fields constants n =
+    told (known (kind_at s n) (op_at s n)) (Node Unknown n)
+    then told (operator_zero (kind_at s n) (op_at s n) && slots_right s fields constants n Unused) (Node Unused n)
+    then told (slots_right s fields constants n Range) (Node Range n)
+    then told (slots_right s fields constants n Sort) (Node Sort n)
 
 -- of the nodes below n, the lowest first
-unfoldable pub verdictBelow : List ℕ → ℕ → ℕ → ℕ → Verdict
-verdictBelow s fields constants zero = Passes
-verdictBelow s fields constants (suc n) = verdictBelow s fields constants n then nodeVerdict s fields constants n
+unfoldable pub verdict_below : List ℕ → ℕ → ℕ → ℕ → Verdict
+verdict_below s fields constants zero = Passes
+verdict_below s fields constants (suc n) = verdict_below s fields constants n then node_verdict s fields constants n
 
-abbrev pub nodesVerdict : List ℕ → ℕ → ℕ → Verdict
-nodesVerdict s fields constants = verdictBelow s fields constants (nodeCount s)
+abbrev pub nodes_verdict : List ℕ → ℕ → ℕ → Verdict
+nodes_verdict s fields constants = verdict_below s fields constants (node_count s)

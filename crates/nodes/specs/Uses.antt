@@ -1,22 +1,22 @@
 -- How often each node is a child: document 01, "every other node is a child exactly once".
 use Rattle.std.specs.Prelude.{ℕ, zero, suc, ◌+◌, ◌-◌, Bool, cond, ◌&&◌, List, eqb}
 use Rattle.basis.specs.Tests.{all}
-use Rattle.nodes.specs.Nodes.{nodeCount, kind_at, slot_at, heldIn, isChild}
+use Rattle.nodes.specs.Nodes.{node_count, kind_at, slot_at, held_in, is_child}
 
 -- node c is the child in slot k of node n
-abbrev pub childIn : List ℕ → ℕ → ℕ → ℕ → Bool
-childIn s n k c = isChild (heldIn (kind_at s n) k) && eqb (slot_at s n k) c
+abbrev pub child_in : List ℕ → ℕ → ℕ → ℕ → Bool
+child_in s n k c = is_child (held_in (kind_at s n) k) && eqb (slot_at s n k) c
 
 -- how often it is one in the first k slots of node n
-unfoldable pub usesIn : List ℕ → ℕ → ℕ → ℕ → ℕ
-usesIn s n zero c = 0
-usesIn s n (suc k) c = usesIn s n k c + cond (childIn s n k c) 1 0
+unfoldable pub uses_in : List ℕ → ℕ → ℕ → ℕ → ℕ
+uses_in s n zero c = 0
+uses_in s n (suc k) c = uses_in s n k c + cond (child_in s n k c) 1 0
 
 -- how often it is one of the nodes below n
-unfoldable pub usesBelow : List ℕ → ℕ → ℕ → ℕ
-usesBelow s zero c = 0
-usesBelow s (suc n) c = usesBelow s n c + usesIn s n 3 c
+unfoldable pub uses_below : List ℕ → ℕ → ℕ → ℕ
+uses_below s zero c = 0
+uses_below s (suc n) c = uses_below s n c + uses_in s n 3 c
 
 -- every node but the last is a child exactly once
-unfoldable pub usedOnce : List ℕ → Bool
-usedOnce s = all (nodeCount s - 1) (λ c. eqb (usesBelow s (nodeCount s) c) 1)
+unfoldable pub used_once : List ℕ → Bool
+used_once s = all (node_count s - 1) (λ c. eqb (uses_below s (node_count s) c) 1)

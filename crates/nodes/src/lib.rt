@@ -3,7 +3,7 @@ pub mod uses;
 
 ghost use Rattle.std.specs.Prelude.{◌≡◌, true, ℕ, ◌≤◌, ◌<◌, length, get_or};
 ghost use Rattle.nodes.specs.Inside.Rows.{row_of};
-ghost use Rattle.nodes.specs.Nodes.{In, nodeCount, kind_at, opAt, slot_at, heldIn, isChild, known, operatorZero, zeroIn, rangeRight, ofSort, sortRight, slotRight, slotsRight, nodeVerdict};
+ghost use Rattle.nodes.specs.Nodes.{In, node_count, kind_at, op_at, slot_at, held_in, is_child, known, operator_zero, zero_in, range_right, of_sort, sort_right, slot_right, slots_right, node_verdict};
 ghost use Rattle.nodes.specs.Inside.Counting.{TakesChild, TakesNode, Judges};
 
 use basis::word;
@@ -31,7 +31,7 @@ pub fn kind_of(nodes: &[u8], n: usize) -> u8
 // Its operator byte.
 pub fn op_of(nodes: &[u8], n: usize) -> u8
     requires { In nodes.now n }
-    ensures { result ≡ opAt nodes.now n }
+    ensures { result ≡ op_at nodes.now n }
 {
     nodes[n * 8 + 1]
 }
@@ -66,7 +66,7 @@ fn row_of(kind: u8) -> u32
 // What slot k of a kind holds.
 pub fn held_in(kind: u8, k: usize) -> Held
     requires { k < 3 }
-    ensures { result ≡ heldIn kind k }
+    ensures { result ≡ held_in kind k }
 {
     let digit = (row_of(kind) >> (k * 3)) % 8;
     match digit {
@@ -79,7 +79,7 @@ pub fn held_in(kind: u8, k: usize) -> Held
 }
 
 pub fn is_child(held: Held) -> bool
-    ensures { result ≡ isChild held }
+    ensures { result ≡ is_child held }
 {
     match held {
         Held::Nothing => false,
@@ -98,14 +98,14 @@ fn known_kind(kind: u8, op: u8) -> bool
 
 // Whether the operator byte is 0 in a kind without one.
 fn operator_zero(kind: u8, op: u8) -> bool
-    ensures { result ≡ operatorZero kind op }
+    ensures { result ≡ operator_zero kind op }
 {
     (kind == 2) | (op == 0)
 }
 
 // Whether a slot that holds nothing is 0.
 fn zero_in(held: Held, w: usize) -> bool
-    ensures { result ≡ zeroIn held w }
+    ensures { result ≡ zero_in held w }
 {
     match held {
         Held::Nothing => w == 0,
@@ -118,7 +118,7 @@ fn zero_in(held: Held, w: usize) -> bool
 
 // Whether the number in a slot of node n is in range: an index below its count, a child lower than n.
 fn range_right(fields: usize, constants: usize, n: usize, held: Held, w: usize) -> bool
-    ensures { result ≡ rangeRight fields constants n held w }
+    ensures { result ≡ range_right fields constants n held w }
 {
     match held {
         Held::Nothing => true,
@@ -131,7 +131,7 @@ fn range_right(fields: usize, constants: usize, n: usize, held: Held, w: usize) 
 
 // Whether a child of this kind is of the right sort: kinds 0 to 4 are expressions, the others commands.
 fn of_sort(held: Held, kind: u8) -> bool
-    ensures { result ≡ ofSort held kind }
+    ensures { result ≡ of_sort held kind }
 {
     match held {
         Held::Nothing => true,
@@ -145,7 +145,7 @@ fn of_sort(held: Held, kind: u8) -> bool
 // Whether the child in a slot of node n is, if it is lower.
 fn sort_right(nodes: &[u8], n: usize, held: Held, w: usize) -> bool
     requires { In nodes.now n }
-    ensures { result ≡ sortRight nodes.now n held w }
+    ensures { result ≡ sort_right nodes.now n held w }
 {
     if n <= w {
         return true;
@@ -164,7 +164,7 @@ fn slot_right(
     w: usize,
 ) -> bool
     requires { In nodes.now n }
-    ensures { result ≡ slotRight nodes.now fields constants n fault held w }
+    ensures { result ≡ slot_right nodes.now fields constants n fault held w }
 {
     match fault {
         Fault::Unknown => true,
@@ -177,7 +177,7 @@ fn slot_right(
 // Whether all slots of node n are.
 fn slots_right(nodes: &[u8], fields: usize, constants: usize, n: usize, fault: Fault) -> bool
     requires { In nodes.now n }
-    ensures { result ≡ slotsRight nodes.now fields constants n fault }
+    ensures { result ≡ slots_right nodes.now fields constants n fault }
 {
     let kind = kind_of(nodes, n);
     let mut k = 0;
@@ -194,7 +194,7 @@ fn slots_right(nodes: &[u8], fields: usize, constants: usize, n: usize, fault: F
 // Judges node n.
 fn judge_node(nodes: &[u8], fields: usize, constants: usize, n: usize) -> Verdict
     requires { In nodes.now n }
-    ensures { result ≡ nodeVerdict nodes.now fields constants n }
+    ensures { result ≡ node_verdict nodes.now fields constants n }
 {
     let kind = kind_of(nodes, n);
     let op = op_of(nodes, n);
@@ -268,7 +268,7 @@ fn take_node(nodes: &[u8], fields: usize, constants: usize, n: usize, used: &mut
 // Judges all nodes, the lowest first, and counts how often each is a child, from an array of zeros.
 // Which fault it is, is asked only of a node that has one.
 pub fn judge_nodes(nodes: &[u8], fields: usize, constants: usize, used: &mut [u8]) -> Verdict
-    requires { (nodeCount nodes.now ≤ length used.old) × ((c : ℕ) → get_or used.old c 0 ≡ 0) }
+    requires { (node_count nodes.now ≤ length used.old) × ((c : ℕ) → get_or used.old c 0 ≡ 0) }
     ensures { Judges nodes.now fields constants used.new result }
 {
     let count = nodes.len() / 8;

@@ -55,8 +55,8 @@ each-length zero m text most = omega arith
 each-length (suc n) m text most = omega (arith, length-append (each n text) (text n), each-length n m text most, most n, suc-mul n m)
 
 -- a text put at the start
-pub put-begins : {s t text : List ℕ} {end : ℕ} → Put s t 0 text end → length text ≤ length s → Begins t text end
-put-begins {s} {t} {text} {end} put long =
+pub put_begins : {s t text : List ℕ} {end : ℕ} → Put s t 0 text end → length text ≤ length s → Begins t text end
+put_begins {s} {t} {text} {end} put long =
     let room : Room s 0 text = omega arith in
     let here : end ≡ 0 + length text = put.end_is room in
     let within : end ≤ length t = omega (arith, put.long) in
@@ -66,5 +66,5 @@ put-begins {s} {t} {text} {end} put long =
       bytes = ap (take end) (put.bytes room ∙ sets-eq text s 0 room) ∙ take_at text (drop (0 + length text) s) end (omega arith);
     }
 
-pub begins-as : {out a b : List ℕ} {end : ℕ} → a ≡ b → Begins out a end → Begins out b end
-begins-as e h = rw e at h
+pub begins_as : {out a b : List ℕ} {end : ℕ} → a ≡ b → Begins out a end → Begins out b end
+begins_as e h = rw e at h

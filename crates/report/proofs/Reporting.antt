@@ -6,37 +6,37 @@ use mathlib.Core.List.{List}
 use lib.ListN.{length}
 use Rattle.basis.specs.Numbers as numbers
 use Rattle.basis.specs.Answer.{refusal, word_of, answer_in}
-use Rattle.basis.proofs.Checks.{past-checks}
+use Rattle.basis.proofs.Checks.{past_checks}
 use Rattle.sections.specs.Sections.{fields_of}
-use Rattle.beltuqash.specs.Calls.{runChecks, run_from, run}
-use Rattle.beltuqash.proofs.Checking.{run-numbered, run_holds, fields-long}
-use Rattle.beltuqash.proofs.Unique.{word-tells, run-within, within-fits}
-use Rattle.report.specs.File.{modeIn, fuelIn, sheetIn, storeIn, isCut}
-use Rattle.report.specs.Text.{refusedText}
-use Rattle.report.specs.Report.{lent, outcomeOf, runText, reportOf}
+use Rattle.beltuqash.specs.Calls.{run_checks, run_from, run}
+use Rattle.beltuqash.proofs.Checking.{run_numbered, run_holds, fields-long}
+use Rattle.beltuqash.proofs.Unique.{word_tells, run-within, within-fits}
+use Rattle.report.specs.File.{mode_in, fuel_in, sheet_in, store_in, is_cut}
+use Rattle.report.specs.Text.{refused_text}
+use Rattle.report.specs.Report.{lent, outcome_of, run_text, report_of}
 
 module _ (file : List ℕ) where
-  pub report-cut : isCut file ≡ true → reportOf file ≡ refusedText (refusal numbers.sheetLength 0)
-  unfolding reportOf
-  report-cut e = rw e
+  pub report_cut : is_cut file ≡ true → report_of file ≡ refused_text (refusal numbers.sheet_length 0)
+  unfolding report_of
+  report_cut e = rw e
 
-  pub report-run : isCut file ≡ false → reportOf file ≡ runText file
-  unfolding reportOf
-  report-run e = rw e
+  pub report_run : is_cut file ≡ false → report_of file ≡ run_text file
+  unfolding report_of
+  report_run e = rw e
 
   -- the word tells the answer
-  pub answer-told : answer_in (word_of (outcomeOf file).answer) ≡ (outcomeOf file).answer
-  unfolding outcomeOf
-  answer-told = word-tells _ (within-fits (run-within (sheetIn file) (storeIn file) (modeIn file) (fuelIn file) lent))
+  pub answer-told : answer_in (word_of (outcome_of file).answer) ≡ (outcome_of file).answer
+  unfolding outcome_of
+  answer-told = word_tells _ (within-fits (run-within (sheet_in file) (store_in file) (mode_in file) (fuel_in file) lent))
 
   -- number 0 means that the sheet passed
-  pub done-fields : (outcomeOf file).answer.number ≡ numbers.done → length (fields_of (sheetIn file)) ≤ 512
-  unfolding outcomeOf run
+  pub done-fields : (outcome_of file).answer.number ≡ numbers.done → length (fields_of (sheet_in file)) ≤ 512
+  unfolding outcome_of run
   done-fields e =
-      let sheet = sheetIn file in
-      let store = storeIn file in
-      let mode = modeIn file in
-      let fuel = fuelIn file in
-      let checks = runChecks sheet store mode fuel (length lent) in
-      let hold = (past-checks checks lent (run_from sheet store mode fuel lent) (run-numbered sheet store mode fuel (length lent)) e).0 in
+      let sheet = sheet_in file in
+      let store = store_in file in
+      let mode = mode_in file in
+      let fuel = fuel_in file in
+      let checks = run_checks sheet store mode fuel (length lent) in
+      let hold = (past_checks checks lent (run_from sheet store mode fuel lent) (run_numbered sheet store mode fuel (length lent)) e).0 in
       fields-long sheet (run_holds sheet store mode fuel (length lent) hold).taken.loaded

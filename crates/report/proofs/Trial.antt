@@ -6,10 +6,10 @@ use Rattle.basis.specs.Tests.{all}
 use Rattle.value.specs.Values.{operating}
 use Rattle.value.specs.Bytes.{of_bits, bits_of, bytes_of}
 use Rattle.beltuqash.specs.Calls.{calling}
-use Rattle.report.specs.File.{sheetIn, storeIn, isCut}
-use Rattle.report.specs.Text.{doneWord, wholeWord, each, digitsWithin, decimal, part, signed, withoutZero, name_of}
-use Rattle.report.specs.Text.{markText, cellText, fieldLine, doneText, printed}
-use Rattle.report.specs.Report.{outcomeOf, runText, reportOf}
+use Rattle.report.specs.File.{sheet_in, store_in, is_cut}
+use Rattle.report.specs.Text.{done_word, whole_word, each, digits_within, decimal, part, signed, without_zero, name_of}
+use Rattle.report.specs.Text.{mark_text, cell_text, field_line, done_text, printed}
+use Rattle.report.specs.Report.{outcome_of, run_text, report_of}
 
 -- Mode 1, fuel 9, sheet `02 00 03 00 02 00 01 00 71 ..`, store `01 00 01 29 00 00 00`
 abbrev sheet : List ℕ
@@ -27,7 +27,7 @@ abbrev file : List ℕ
 file = (1 ∷ 9 ∷ 0 ∷ 0 ∷ 0 ∷ 56 ∷ 0 ∷ []) ++ sheet ++ (7 ∷ 0 ∷ []) ++ (1 ∷ 0 ∷ 1 ∷ 41 ∷ 0 ∷ 0 ∷ 0 ∷ [])
 
 -- prints `done 1` and `q 1 whole 42`
-pub trial : reportOf file ≡ doneWord ++ (32 ∷ 49 ∷ 10 ∷ 113 ∷ 32 ∷ 49 ∷ 32 ∷ []) ++ wholeWord ++ (32 ∷ 52 ∷ 50 ∷ 10 ∷ [])
-unfolding all operating of_bits bits_of bytes_of calling sheetIn storeIn isCut
-    each digitsWithin decimal part signed withoutZero name_of markText cellText fieldLine doneText printed outcomeOf runText reportOf
+pub trial : report_of file ≡ done_word ++ (32 ∷ 49 ∷ 10 ∷ 113 ∷ 32 ∷ 49 ∷ 32 ∷ []) ++ whole_word ++ (32 ∷ 52 ∷ 50 ∷ 10 ∷ [])
+unfolding all operating of_bits bits_of bytes_of calling sheet_in store_in is_cut
+    each digits_within decimal part signed without_zero name_of mark_text cell_text field_line done_text printed outcome_of run_text report_of
 trial = refl

@@ -2,16 +2,16 @@
 ghost use Rattle.std.specs.Prelude.{◌+◌, ◌≤◌, length};
 ghost use Rattle.names.specs.Names.{NameIn};
 ghost use Rattle.store.specs.Marks.{mark_of};
-ghost use Rattle.store.specs.Stores.{cell_at, storeLength};
+ghost use Rattle.store.specs.Stores.{cell_at, store_length};
 ghost use Rattle.report.specs.Inside.Given.{Entries};
 ghost use Rattle.report.specs.Inside.Putting.{Put};
-ghost use Rattle.report.specs.Text.{withoutZero, name_of, markText, cellText, fieldLine, fieldLines};
+ghost use Rattle.report.specs.Text.{without_zero, name_of, mark_text, cell_text, field_line, field_lines};
 
 use crate::number::{put_byte, put_part, put_signed, put_text};
 
 // A byte of a name, if it is not zero.
 fn put_unless_zero(out: &mut [u8], at: usize, byte: u8) -> usize
-    ensures { Put out.old out.new at (withoutZero byte) result }
+    ensures { Put out.old out.new at (without_zero byte) result }
 {
     if byte == 0 {
         return at;
@@ -36,7 +36,7 @@ fn put_name(out: &mut [u8], at: usize, fields: &[u8], i: usize) -> usize
 
 // A mark's level, and whether it is whole or partial.
 fn put_mark(out: &mut [u8], at: usize, mark: u32) -> usize
-    ensures { Put out.old out.new at (markText (mark_of mark)) result }
+    ensures { Put out.old out.new at (mark_text (mark_of mark)) result }
 {
     let level = put_part(out, at, store::level_said(mark));
     if store::is_partial(mark) {
@@ -47,8 +47,8 @@ fn put_mark(out: &mut [u8], at: usize, mark: u32) -> usize
 
 // Field i's mark and value.
 fn put_cell(out: &mut [u8], at: usize, store: &[u8], i: usize) -> usize
-    requires { storeLength (i + 1) ≤ length store.now }
-    ensures { Put out.old out.new at (cellText (cell_at store.now i)) result }
+    requires { store_length (i + 1) ≤ length store.now }
+    ensures { Put out.old out.new at (cell_text (cell_at store.now i)) result }
 {
     let mark = put_mark(out, at, store::mark_at(store, i));
     let blank = put_byte(out, mark, b' ');
@@ -57,8 +57,8 @@ fn put_cell(out: &mut [u8], at: usize, store: &[u8], i: usize) -> usize
 
 // Field i's line.
 fn put_line(out: &mut [u8], at: usize, fields: &[u8], store: &[u8], i: usize) -> usize
-    requires { NameIn fields.now i × (storeLength (i + 1) ≤ length store.now) }
-    ensures { Put out.old out.new at (fieldLine fields.now store.now i) result }
+    requires { NameIn fields.now i × (store_length (i + 1) ≤ length store.now) }
+    ensures { Put out.old out.new at (field_line fields.now store.now i) result }
 {
     let name = put_name(out, at, fields, i);
     let cell = put_cell(out, name, store, i);
@@ -68,7 +68,7 @@ fn put_line(out: &mut [u8], at: usize, fields: &[u8], store: &[u8], i: usize) ->
 // All fields' lines.
 pub fn put_lines(out: &mut [u8], at: usize, fields: &[u8], store: &[u8]) -> usize
     requires { Entries fields.now store.now }
-    ensures { Put out.old out.new at (fieldLines fields.now store.now) result }
+    ensures { Put out.old out.new at (field_lines fields.now store.now) result }
 {
     let n = fields.len() / 8;
     let mut end = at;

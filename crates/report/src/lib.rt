@@ -7,7 +7,7 @@ pub mod outcome;
 
 ghost use Rattle.std.specs.Prelude.{◌≤◌, length};
 ghost use Rattle.report.specs.Inside.Given.{Complete};
-ghost use Rattle.report.specs.Report.{runText, reportOf, longest, Begins};
+ghost use Rattle.report.specs.Report.{run_text, report_of, longest, Begins};
 
 use basis::answer::{refusal, unpack};
 use basis::numbers::SHEET_LENGTH;
@@ -16,7 +16,7 @@ use store::LONGEST;
 // What the runner prints for a file, and how long it is.
 pub fn report(file: &[u8], text: &mut [u8]) -> usize
     requires { longest ≤ length text.old }
-    ensures { Begins text.new (reportOf file.now) result }
+    ensures { Begins text.new (report_of file.now) result }
 {
     if file::is_cut(file) {
         return outcome::print_refused(refusal(SHEET_LENGTH, 0), text);
@@ -27,7 +27,7 @@ pub fn report(file: &[u8], text: &mut [u8]) -> usize
 // The same for a file that is not cut: the text of the run that it asks for.
 fn report_run(file: &[u8], text: &mut [u8]) -> usize
     requires { Complete file.now × (longest ≤ length text.old) }
-    ensures { Begins text.new (runText file.now) result }
+    ensures { Begins text.new (run_text file.now) result }
 {
     let sheet = file::sheet(file);
     let store = file::store(file);

@@ -3,7 +3,7 @@ ghost use Rattle.std.specs.Prelude.{◌≤◌, ◌≡◌, length};
 ghost use Rattle.basis.specs.Numbers.{done};
 ghost use Rattle.report.specs.Inside.Given.{Final};
 ghost use Rattle.report.specs.Report.{longest, Begins};
-ghost use Rattle.report.specs.Text.{doneText, refusedText, printed};
+ghost use Rattle.report.specs.Text.{done_text, refused_text, printed};
 
 use crate::field::put_lines;
 use crate::number::{put_byte, put_part, put_text};
@@ -13,7 +13,7 @@ use basis::numbers::DONE;
 // `done` and units, then a line per field.
 fn print_done(units: u32, fields: &[u8], store: &[u8], out: &mut [u8]) -> usize
     requires { Final fields.now store.now × (longest ≤ length out.old) }
-    ensures { Begins out.new (doneText units fields.now store.now) result }
+    ensures { Begins out.new (done_text units fields.now store.now) result }
 {
     let done = put_text(out, 0, b"done");
     let spent = put_part(out, done, units);
@@ -24,7 +24,7 @@ fn print_done(units: u32, fields: &[u8], store: &[u8], out: &mut [u8]) -> usize
 // `refused`, number, place and units.
 pub fn print_refused(answer: Answer, out: &mut [u8]) -> usize
     requires { longest ≤ length out.old }
-    ensures { Begins out.new (refusedText answer) result }
+    ensures { Begins out.new (refused_text answer) result }
 {
     let refused = put_text(out, 0, b"refused");
     let number = put_part(out, refused, answer.number as u32);

@@ -5,11 +5,11 @@ use mathlib.Core.Bool.{Bool, true, false}
 use lib.Dec.{eqb}
 use borrow.Author.Tests.{eqb-true}
 use Rattle.basis.proofs.Tests.{split}
-use Rattle.value.specs.Values.{isTrue}
+use Rattle.value.specs.Values.{is_true}
 use Rattle.value.specs.declared.Value.{Value}
-use Rattle.sheet.specs.Trees.{Exp, Cmd, skip, assign, sequence, ifElse, while}
+use Rattle.sheet.specs.Trees.{Exp, Cmd, skip, assign, sequence, if_else, while}
 use Rattle.rules.specs.Ends.{Why, Try, fine, fails, Result, gives, stops, End, done, spent, stopped, at, and_then, with, choose, spend, bind}
-use Rattle.rules.specs.Rules.{Marking, put, eval, updated, branch, tested, rounds, execBy, exec}
+use Rattle.rules.specs.Rules.{Marking, put, eval, updated, branch, tested, rounds, exec_by, exec}
 use Rattle.store.specs.Cells.{Cell, cell, Store}
 
 -- a cell put at a field, where a relation holds there and everywhere else
@@ -29,7 +29,7 @@ pub record Moves {Mark Seen Context : Type 0} (𝓜 : Marking Mark Seen Context)
   pub Moved : Mark → Mark → Type 0
   pub enter-inside : (context : Context) (m : Seen) → Inside context → Fine Inside (𝓜.enter context m)
   pub store-inside : (place : ℕ) (context : Context) (old : Mark) (m : Seen) → Inside context → Fine (Moved old) (𝓜.store place context old m)
-  pub moved-trans : (k m n : Mark) → Moved k m → Moved m n → Moved k n
+  pub moved_trans : (k m n : Mark) → Moved k m → Moved m n → Moved k n
 
 module _ {Mark Seen Context : Type 0} {𝓜 : Marking Mark Seen Context} (𝓢 : Moves 𝓜) where
   pub data Later : Cell Mark → Cell Mark → Type 0 where
@@ -39,7 +39,7 @@ module _ {Mark Seen Context : Type 0} {𝓜 : Marking Mark Seen Context} (𝓢 :
   later_trans : (a b c : Cell Mark) → Later a b → Later b c → Later a c
   later_trans a b c stays k = k
   later_trans a b c (moves h) stays = moves h
-  later_trans a b c (moves {m} {n} h) (moves {n = l} k) = moves (𝓢.moved-trans m n l h k)
+  later_trans a b c (moves {m} {n} h) (moves {n = l} k) = moves (𝓢.moved_trans m n l h k)
 
   -- where a run from σ is done, each field has stayed or moved
   pub data Ran (σ : Store Mark) : End Mark → Type 0 where
@@ -81,24 +81,24 @@ module _ {Mark Seen Context : Type 0} {𝓜 : Marking Mark Seen Context} (𝓢 :
   abbrev pub Keeps : Store Mark → (Context → End Mark) → Type 0
   Keeps σ side = (context : Context) → 𝓢.Inside context → Ran σ (side context)
 
-  pub choose-ran : (b : Bool) {σ : Store Mark} {yes-side no-side : Context → End Mark} → Keeps σ yes-side → Keeps σ no-side → Keeps σ (choose b yes-side no-side)
+  pub choose-ran : (b : Bool) {σ : Store Mark} {yes_side no_side : Context → End Mark} → Keeps σ yes_side → Keeps σ no_side → Keeps σ (choose b yes_side no_side)
   unfolding choose
   choose-ran true y n context inside = y context inside
   choose-ran false y n context inside = n context inside
 
   -- ── the rules ─────────────────────────────────────────────────────────────────────────────
 
-  branch-ran : (place : ℕ) (context : Context) (x : Cell Seen) (left : ℕ) {σ : Store Mark} {yes-side no-side : Context → End Mark}
-      → 𝓢.Inside context → Keeps σ yes-side → Keeps σ no-side → Ran σ (branch 𝓜 place context x left yes-side no-side)
+  branch-ran : (place : ℕ) (context : Context) (x : Cell Seen) (left : ℕ) {σ : Store Mark} {yes_side no_side : Context → End Mark}
+      → 𝓢.Inside context → Keeps σ yes_side → Keeps σ no_side → Ran σ (branch 𝓜 place context x left yes_side no_side)
   unfolding branch with at
-  branch-ran place context (cell v m) left {σ} {yes-side} {no-side} inside y n = go (𝓢.enter-inside context m inside)
+  branch-ran place context (cell v m) left {σ} {yes_side} {no_side} inside y n = go (𝓢.enter-inside context m inside)
     where
-      go : {x : Try Context} → Fine 𝓢.Inside x → Ran σ (with (at place x) left (choose (isTrue v) yes-side no-side))
-      go (good {a} h) = choose-ran (isTrue v) y n a h
+      go : {x : Try Context} → Fine 𝓢.Inside x → Ran σ (with (at place x) left (choose (is_true v) yes_side no_side))
+      go (good {a} h) = choose-ran (is_true v) y n a h
       go bad = ran-stopped
 
-  tested-ran : (place : ℕ) (a : Exp) (context : Context) (σ : Store Mark) (fuel : ℕ) {yes-side no-side : Context → ℕ → End Mark} → 𝓢.Inside context
-      → ((left : ℕ) → Keeps σ (λ c. yes-side c left)) → ((left : ℕ) → Keeps σ (λ c. no-side c left)) → Ran σ (tested 𝓜 place a context σ fuel yes-side no-side)
+  tested-ran : (place : ℕ) (a : Exp) (context : Context) (σ : Store Mark) (fuel : ℕ) {yes_side no_side : Context → ℕ → End Mark} → 𝓢.Inside context
+      → ((left : ℕ) → Keeps σ (λ c. yes_side c left)) → ((left : ℕ) → Keeps σ (λ c. no_side c left)) → Ran σ (tested 𝓜 place a context σ fuel yes_side no_side)
   unfolding tested
   tested-ran place a context σ fuel inside y n =
       spend-ran place fuel (λ left. with-ran (eval 𝓜 a σ) left (λ x. branch-ran place context x left inside (y left) (n left)))
@@ -122,10 +122,10 @@ module _ {Mark Seen Context : Type 0} {𝓜 : Marking Mark Seen Context} (𝓢 :
       (λ left c in_c. unmoved)
 
   pub exec-ran : (c : Cmd) (σ : Store Mark) (fuel : ℕ) → Keeps σ (λ context. exec 𝓜 c context σ fuel)
-  unfolding execBy
+  unfolding exec_by
   exec-ran (skip place) σ fuel context inside = spend-ran place fuel (λ left. unmoved)
   exec-ran (assign place i b) σ fuel context inside =
       spend-ran place fuel (λ left. with-ran (eval 𝓜 b σ) left (λ x. updated-ran place i context σ (σ i) x left inside refl))
   exec-ran (sequence a b) σ fuel context inside = bind-ran (exec-ran a σ fuel context inside) (λ τ left. exec-ran b τ left context inside)
-  exec-ran (ifElse place a b c) σ fuel context inside = tested-ran place a context σ fuel inside (λ left. exec-ran b σ left) (λ left. exec-ran c σ left)
+  exec-ran (if_else place a b c) σ fuel context inside = tested-ran place a context σ fuel inside (λ left. exec-ran b σ left) (λ left. exec-ran c σ left)
   exec-ran (while place a b) σ fuel context inside = rounds-ran place a (exec 𝓜 b) (exec-ran b) fuel σ fuel context inside

@@ -20,8 +20,8 @@ pub data Ends {A : Type 0} (P : Store A → Store A → Type 0) : End A → End 
   stopped-first : {why : Why} {place left : ℕ} {y : End A} → Ends P (stopped why place left) y
   stopped-second : {x : End A} {why : Why} {place left : ℕ} → Ends P x (stopped why place left)
 
-pub both-done : {A : Type 0} {P : Store A → Store A → Type 0} {σ τ : Store A} {f g : ℕ} → Ends P (done σ f) (done τ g) → P σ τ
-both-done (dones h) = h
+pub both_done : {A : Type 0} {P : Store A → Store A → Type 0} {σ τ : Store A} {f g : ℕ} → Ends P (done σ f) (done τ g) → P σ τ
+both_done (dones h) = h
 
 -- ── the ways to go on ───────────────────────────────────────────────────────────────────────
 
@@ -31,17 +31,17 @@ at_results place (fines h) = results h
 at_results place fails-first = stops_first
 at_results place fails-second = stops_second
 
-pub any-fines : {A B : Type 0} (x : Try A) (y : Try B) → Fines (λ a b. Unit {0}) x y
-any-fines (fine a) (fine b) = fines tt
-any-fines (fine a) (fails why) = fails-second
-any-fines (fails why) y = fails-first
+pub any_fines : {A B : Type 0} (x : Try A) (y : Try B) → Fines (λ a b. Unit {0}) x y
+any_fines (fine a) (fine b) = fines tt
+any_fines (fine a) (fails why) = fails-second
+any_fines (fails why) y = fails-first
 
-pub then-results : {A B C D : Type 0} {P : A → B → Type 0} {Q : C → D → Type 0} {x : Result A} {y : Result B} {f : A → Result C} {g : B → Result D}
+pub then_results : {A B C D : Type 0} {P : A → B → Type 0} {Q : C → D → Type 0} {x : Result A} {y : Result B} {f : A → Result C} {g : B → Result D}
     → Results P x y → ((a : A) (b : B) → P a b → Results Q (f a) (g b)) → Results Q (and_then x f) (and_then y g)
 unfolding and_then
-then-results (results {a} {b} h) next = next a b h
-then-results stops_first next = stops_first
-then-results stops_second next = stops_second
+then_results (results {a} {b} h) next = next a b h
+then_results stops_first next = stops_first
+then_results stops_second next = stops_second
 
 module _ {A : Type 0} {P : Store A → Store A → Type 0} where
   pub spend-ends : (place f g : ℕ) {x y : ℕ → End A} → ((f g : ℕ) → Ends P (x f) (y g)) → Ends P (spend place f x) (spend place g y)

@@ -11,15 +11,15 @@ use Rattle.value.specs.declared.Value.{Value}
 use Rattle.levels.specs.Levels.{right}
 use Rattle.levels.specs.Lattice.{lattice, ordering}
 use Rattle.levels.proofs.Laws.{laws}
-use Rattle.sheet.specs.Trees.{constant, field, operator, Cmd, skip, assign, sequence, ifElse, while}
+use Rattle.sheet.specs.Trees.{constant, field, operator, Cmd, skip, assign, sequence, if_else, while}
 use Rattle.store.specs.Cells.{Cell, cell, Store}
 use Rattle.rules.specs.Rules.{running}
-use Rattle.store.specs.Marks.{Mark, whole, partial, isPartial, permissive}
+use Rattle.store.specs.Marks.{Mark, whole, partial, is_partial, permissive}
 use Rattle.rules.specs.LevelMarks.{joined, entered, stored, marking}
-use Rattle.rules.specs.Agreement.{Agree, shown, hidden, second-partial}
-use Rattle.rules.specs.Pupils.{KeepsSecrets, KeepsToRules, aKept, oldContextLater, neverClean, PupilsCaught, storedKeeping, laterRounds, storedAbove}
+use Rattle.rules.specs.Agreement.{Agree, shown, hidden, second_partial}
+use Rattle.rules.specs.Pupils.{KeepsSecrets, KeepsToRules, a_kept, old_context_later, never_clean, PupilsCaught, stored_keeping, later_rounds, stored_above}
 use Rattle.rules.proofs.Within.{done-once}
-use Rattle.rules.proofs.Published.{follows, runs-as-published}
+use Rattle.rules.proofs.Published.{follows, runs_as_published}
 use Rattle.rules.proofs.SafeMarks.{noninterference}
 
 number : ℕ → Value
@@ -41,7 +41,7 @@ diamond-right = refl
 
 -- if field 0 then field 1 := 5 else skip, for the reader at level 1: field 0 is whole 1; field 1 is whole 3 in the first store and whole 2 in the second
 assigns : Cmd
-assigns = ifElse 3 (field 0) (assign 1 1 (constant (number 5))) (skip 2)
+assigns = if_else 3 (field 0) (assign 1 1 (constant (number 5))) (skip 2)
 
 start : ℕ → Store Mark
 start A = fields (cell (number 1) (whole 1)) (cell (number 0) (whole A))
@@ -54,12 +54,12 @@ start-agree (suc i) = hidden refl refl
 -- whole 1 does not agree with partial 2 for him
 apart : Agree (lattice diamond) 1 (cell (number 5) (whole 1)) (cell (number 5) (partial 2)) → ⊥
 unfolding diamond ordering
-apart (second-partial (inl e)) = true≢false e
-apart (second-partial (inr e)) = true≢false (sym e)
+apart (second_partial (inl e)) = true≢false e
+apart (second_partial (inr e)) = true≢false (sym e)
 
-a-kept-leaks : KeepsSecrets aKept → ⊥
-unfolding assigns start fields number diamond ordering running operating joined entered storedKeeping stored
-a-kept-leaks keeps =
+a_kept_leaks : KeepsSecrets a_kept → ⊥
+unfolding assigns start fields number diamond ordering running operating joined entered stored_keeping stored
+a_kept_leaks keeps =
     apart (keeps (lattice diamond) (laws diamond diamond-right) 1 refl permissive assigns 0 2 2 (start 3) (start 2) start-agree _ _ 0 0 refl refl 1)
 
 -- ── the old context in later rounds ─────────────────────────────────────────────────────────
@@ -67,9 +67,9 @@ a-kept-leaks keeps =
 two : List ℕ
 two = 3 ∷ 0 ∷ 2 ∷ 0 ∷ []
 
-two-right : right two ≡ true
+two_right : right two ≡ true
 unfolding two ordering
-two-right = refl
+two_right = refl
 
 -- while field 0 do (field 1 := 1; field 0 := field 0 - 1), for the reader at level 0: field 0 is whole 1, at 0 in the first store and at 2 in the
 -- second, whose second round stores field 1 as if nothing had been asked
@@ -79,20 +79,20 @@ counts = while 5 (field 0) (sequence (assign 1 1 (constant (number 1))) (assign 
 from : ℕ → Store Mark
 from n = fields (cell (number n) (whole 1)) (cell (number 0) (whole 0))
 
-from-agree : (i : ℕ) → Agree (lattice two) 0 (from 0 i) (from 2 i)
+from_agree : (i : ℕ) → Agree (lattice two) 0 (from 0 i) (from 2 i)
 unfolding from fields two ordering
-from-agree zero = hidden refl refl
-from-agree (suc i) = shown refl
+from_agree zero = hidden refl refl
+from_agree (suc i) = shown refl
 
 -- 0 does not agree with 1 for him
 told : Agree (lattice two) 0 (cell (number 0) (whole 0)) (cell (number 1) (whole 0)) → ⊥
 unfolding number two ordering
 told (hidden e d) = true≢false e
 
-old-context-leaks : KeepsSecrets oldContextLater → ⊥
-unfolding counts from fields number two ordering running operating joined entered stored laterRounds
-old-context-leaks keeps =
-    told (keeps (lattice two) (laws two two-right) 0 refl permissive counts 0 1 7 (from 0) (from 2) from-agree _ _ 0 0 refl refl 1)
+old_context_leaks : KeepsSecrets old_context_later → ⊥
+unfolding counts from fields number two ordering running operating joined entered stored later_rounds
+old_context_leaks keeps =
+    told (keeps (lattice two) (laws two two_right) 0 refl permissive counts 0 1 7 (from 0) (from 2) from_agree _ _ 0 0 refl refl 1)
 
 -- ── partial as above TOP ────────────────────────────────────────────────────────────────────
 
@@ -104,22 +104,22 @@ half : Store Mark
 half = fields (cell (number 0) (partial 0)) (cell (number 0) (whole 0))
 
 -- the pupil's monitor leaves it partial, the rules whole
-half-closed : Cell Mark → Bool
-half-closed (cell v m) = isPartial m
+half_closed : Cell Mark → Bool
+half_closed (cell v m) = is_partial m
 
-never-clean-unpublished : KeepsToRules neverClean → ⊥
-unfolding cleans half half-closed fields number two ordering running joined storedAbove stored
-never-clean-unpublished keeps =
-    let 𝓘 = laws two two-right in
-    let x = (runs-as-published (lattice two) 𝓘 permissive cleans 0 half _).1 (keeps (lattice two) 𝓘 permissive cleans 0 1 0 half _ refl) in
+never_clean_unpublished : KeepsToRules never_clean → ⊥
+unfolding cleans half half_closed fields number two ordering running joined stored_above stored
+never_clean_unpublished keeps =
+    let 𝓘 = laws two two_right in
+    let x = (runs_as_published (lattice two) 𝓘 permissive cleans 0 half _).1 (keeps (lattice two) 𝓘 permissive cleans 0 1 0 half _ refl) in
     let same = done-once (marking (lattice two) permissive) cleans 0 half x.fuel 1 x.left 0 _ _ x.ends refl in
-    true≢false (ap (λ (σ : Store Mark). half-closed (σ 0)) same)
+    true≢false (ap (λ (σ : Store Mark). half_closed (σ 0)) same)
 
-pub pupils-caught : PupilsCaught
-pupils-caught = record {
-  rules-keep = λ 𝓛 𝓘 R below mode. noninterference 𝓛 𝓘 R below mode;
-  rules-published = λ 𝓛 𝓘 mode c context fuel left σ σ'. follows 𝓛 𝓘 mode c context σ σ' fuel left;
-  a-kept-leaks = a-kept-leaks;
-  old-context-leaks = old-context-leaks;
-  never-clean-unpublished = never-clean-unpublished;
+pub pupils_caught : PupilsCaught
+pupils_caught = record {
+  rules_keep = λ 𝓛 𝓘 R below mode. noninterference 𝓛 𝓘 R below mode;
+  rules_published = λ 𝓛 𝓘 mode c context fuel left σ σ'. follows 𝓛 𝓘 mode c context σ σ' fuel left;
+  a_kept_leaks = a_kept_leaks;
+  old_context_leaks = old_context_leaks;
+  never_clean_unpublished = never_clean_unpublished;
 }

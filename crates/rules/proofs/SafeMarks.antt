@@ -10,9 +10,9 @@ use Rattle.levels.specs.Lattice.{Lattice, Laws}
 use Rattle.store.specs.Cells.{Cell, cell, Store}
 use Rattle.rules.specs.Ends.{done}
 use Rattle.rules.specs.Rules.{exec}
-use Rattle.store.specs.Marks.{Mark, whole, partial, Mode, strict, permissive, levelOf}
+use Rattle.store.specs.Marks.{Mark, whole, partial, Mode, strict, permissive, level_of}
 use Rattle.rules.specs.LevelMarks.{joined, entered, stored, marking}
-use Rattle.rules.specs.Agreement.{Agree, shown, hidden, both-partial, first-partial, second-partial}
+use Rattle.rules.specs.Agreement.{Agree, shown, hidden, both_partial, first_partial, second_partial}
 use Rattle.rules.proofs.Pairs.{Fines, fines, fails-first, fails-second}
 use Rattle.rules.proofs.Moves.{Fine, good, bad, Moves}
 use Rattle.rules.proofs.Noninterference as Noninterference
@@ -20,15 +20,15 @@ use Rattle.rules.proofs.Noninterference.{Safe, Alike, same, blind}
 
 module _ (𝓛 : Lattice) (R : ℕ) where
   pub agree_refl : (c : Cell Mark) → Agree 𝓛 R c c
-  agree_refl (cell v (partial A)) = both-partial
+  agree_refl (cell v (partial A)) = both_partial
   agree_refl (cell v (whole A)) = split (𝓛.le A R) (λ e. shown e) (λ e. hidden e e)
 
 module _ (𝓛 : Lattice) (𝓘 : Laws 𝓛) (R : ℕ) where
-  no-below : {a b : ℕ} → 𝓛.le a b ≡ true → 𝓛.le a R ≡ false → 𝓛.le b R ≡ false
-  no-below {a} {b} h k = is_false (𝓛.le b R) (λ e. true≢false (sym (𝓘.le_trans h e) ∙ k))
+  no_below : {a b : ℕ} → 𝓛.le a b ≡ true → 𝓛.le a R ≡ false → 𝓛.le b R ≡ false
+  no_below {a} {b} h k = is_false (𝓛.le b R) (λ e. true≢false (sym (𝓘.le_trans h e) ∙ k))
 
   join-le : {a b a' b' : ℕ} → 𝓛.le a b ≡ true → 𝓛.le a' b' ≡ true → 𝓛.le (𝓛.join a a') (𝓛.join b b') ≡ true
-  join-le {b} {b'} h k = 𝓘.join-least (𝓘.le_trans h (𝓘.join-upper-left b b')) (𝓘.le_trans k (𝓘.join-upper-right b b'))
+  join-le {b} {b'} h k = 𝓘.join-least (𝓘.le_trans h (𝓘.join_upper_left b b')) (𝓘.le_trans k (𝓘.join_upper_right b b'))
 
   -- ── blind marks: each is clear of the other ───────────────────────────────────────────────
 
@@ -46,24 +46,24 @@ module _ (𝓛 : Lattice) (𝓘 : Laws 𝓛) (R : ℕ) where
   clear_both m n m' (whole b') part k = part
   clear_both m n m' (partial b') part k = part
   clear_both m n m' (partial b') (above h) k = part
-  clear_both m n m' (whole b') (above {b} h) k = above (no-below (𝓘.join-upper-left b b') h)
+  clear_both m n m' (whole b') (above {b} h) k = above (no_below (𝓘.join_upper_left b b') h)
   clear_both m n m' n' (under h) part = part
-  clear_both m n m' n' (under {b} h) (above {b = b'} k) = above (no-below (𝓘.join-upper-right b b') k)
+  clear_both m n m' n' (under {b} h) (above {b = b'} k) = above (no_below (𝓘.join_upper_right b b') k)
   clear_both m n m' n' (under h) (under k) = under (join-le h k)
 
-  clear-left : (m n k : Mark) → Clear m n → Clear (joined 𝓛 m k) (joined 𝓛 n k)
+  clear_left : (m n k : Mark) → Clear m n → Clear (joined 𝓛 m k) (joined 𝓛 n k)
   unfolding joined
-  clear-left m n (whole c) part = part
-  clear-left m n (whole c) (above {b} h) = above (no-below (𝓘.join-upper-left b c) h)
-  clear-left m n (whole c) (under h) = under (join-le h (𝓘.le_refl c))
-  clear-left m n (partial c) h = clear_both m n (partial c) (partial c) h part
+  clear_left m n (whole c) part = part
+  clear_left m n (whole c) (above {b} h) = above (no_below (𝓘.join_upper_left b c) h)
+  clear_left m n (whole c) (under h) = under (join-le h (𝓘.le_refl c))
+  clear_left m n (partial c) h = clear_both m n (partial c) (partial c) h part
 
-  clear-right : (m n k : Mark) → Clear m n → Clear (joined 𝓛 k m) (joined 𝓛 k n)
+  clear_right : (m n k : Mark) → Clear m n → Clear (joined 𝓛 k m) (joined 𝓛 k n)
   unfolding joined
-  clear-right m n (whole c) part = part
-  clear-right m n (whole c) (above {b} h) = above (no-below (𝓘.join-upper-right c b) h)
-  clear-right m n (whole c) (under h) = under (join-le (𝓘.le_refl c) h)
-  clear-right m n (partial c) h = clear_both (partial c) (partial c) m n part h
+  clear_right m n (whole c) part = part
+  clear_right m n (whole c) (above {b} h) = above (no_below (𝓘.join_upper_right c b) h)
+  clear_right m n (whole c) (under h) = under (join-le (𝓘.le_refl c) h)
+  clear_right m n (partial c) h = clear_both (partial c) (partial c) m n part h
 
   -- ── tests and assignments ─────────────────────────────────────────────────────────────────
 
@@ -71,22 +71,22 @@ module _ (𝓛 : Lattice) (𝓘 : Laws 𝓛) (R : ℕ) where
   abbrev Secret : ℕ → Type 0
   Secret context = 𝓛.le context R ≡ false
 
-  enter-blind : (context : ℕ) (m n : Mark) → Blind m n → Fines (λ a b. Secret a × Secret b) (entered 𝓛 context m) (entered 𝓛 context n)
+  enter_blind : (context : ℕ) (m n : Mark) → Blind m n → Fines (λ a b. Secret a × Secret b) (entered 𝓛 context m) (entered 𝓛 context n)
   unfolding entered
-  enter-blind context (whole a) (whole b) (above h, above k) = fines (no-below (𝓘.join-upper-right context a) k, no-below (𝓘.join-upper-right context b) h)
-  enter-blind context (partial a) n h = fails-first
-  enter-blind context (whole a) (partial b) h = fails-second
+  enter_blind context (whole a) (whole b) (above h, above k) = fines (no_below (𝓘.join_upper_right context a) k, no_below (𝓘.join_upper_right context b) h)
+  enter_blind context (partial a) n h = fails-first
+  enter_blind context (whole a) (partial b) h = fails-second
 
-  enter-secret : (context : ℕ) (m : Mark) → Secret context → Fine Secret (entered 𝓛 context m)
+  enter_secret : (context : ℕ) (m : Mark) → Secret context → Fine Secret (entered 𝓛 context m)
   unfolding entered
-  enter-secret context (whole a) h = good (no-below (𝓘.join-upper-left context a) h)
-  enter-secret context (partial a) h = bad
+  enter_secret context (whole a) h = good (no_below (𝓘.join_upper_left context a) h)
+  enter_secret context (partial a) h = bad
 
   -- the meet lies at or below whatever the same context gives
-  meet-clear : (context A : ℕ) (m : Mark) → Clear (partial (𝓛.meet context A)) (joined 𝓛 m (whole context))
+  meet_clear : (context A : ℕ) (m : Mark) → Clear (partial (𝓛.meet context A)) (joined 𝓛 m (whole context))
   unfolding joined
-  meet-clear context A (whole a) = under (𝓘.le_trans (𝓘.meet-lower-left context A) (𝓘.join-upper-right a context))
-  meet-clear context A (partial a) = part
+  meet_clear context A (whole a) = under (𝓘.le_trans (𝓘.meet-lower-left context A) (𝓘.join_upper_right a context))
+  meet_clear context A (partial a) = part
 
   store_same : (mode : Mode) (x y : Bool) (context A B : ℕ) (m : Mark)
       → Fines (λ a b. (a ≡ b) ⊎ Blind a b) (stored 𝓛 mode x context A m) (stored 𝓛 mode y context B m)
@@ -94,59 +94,59 @@ module _ (𝓛 : Lattice) (𝓘 : Laws 𝓛) (R : ℕ) where
   store_same mode true true context A B m = fines (inl refl)
   store_same strict true false context A B m = fails-second
   store_same strict false y context A B m = fails-first
-  store_same permissive true false context A B m = fines (inr (part, meet-clear context B m))
-  store_same permissive false true context A B m = fines (inr (meet-clear context A m, part))
+  store_same permissive true false context A B m = fines (inr (part, meet_clear context B m))
+  store_same permissive false true context A B m = fines (inr (meet_clear context A m, part))
   store_same permissive false false context A B m = fines (inr (part, part))
 
-  store-blind : (mode : Mode) (x y : Bool) (context A B : ℕ) (m n : Mark) → Blind m n → Fines Blind (stored 𝓛 mode x context A m) (stored 𝓛 mode y context B n)
+  store_blind : (mode : Mode) (x y : Bool) (context A B : ℕ) (m n : Mark) → Blind m n → Fines Blind (stored 𝓛 mode x context A m) (stored 𝓛 mode y context B n)
   unfolding stored
-  store-blind mode true true context A B m n (h, k) = fines (clear-left m n (whole context) h, clear-left n m (whole context) k)
-  store-blind strict true false context A B m n h = fails-second
-  store-blind strict false y context A B m n h = fails-first
-  store-blind permissive true false context A B m n h = fines (part, meet-clear context B m)
-  store-blind permissive false true context A B m n h = fines (meet-clear context A n, part)
-  store-blind permissive false false context A B m n h = fines (part, part)
+  store_blind mode true true context A B m n (h, k) = fines (clear_left m n (whole context) h, clear_left n m (whole context) k)
+  store_blind strict true false context A B m n h = fails-second
+  store_blind strict false y context A B m n h = fails-first
+  store_blind permissive true false context A B m n h = fines (part, meet_clear context B m)
+  store_blind permissive false true context A B m n h = fines (meet_clear context A n, part)
+  store_blind permissive false false context A B m n h = fines (part, part)
 
   -- ── how a mark may move in a secret context ───────────────────────────────────────────────
 
   -- from a level not at or below R to what is clear of all; or to partial, no higher than before
   data Moved : Mark → Mark → Type 0 where
-    hides : {m n : Mark} → 𝓛.le (levelOf m) R ≡ false → ((k : Mark) → Clear k n) → Moved m n
-    sinks : {m : Mark} {b : ℕ} → 𝓛.le b (levelOf m) ≡ true → Moved m (partial b)
+    hides : {m n : Mark} → 𝓛.le (level_of m) R ≡ false → ((k : Mark) → Clear k n) → Moved m n
+    sinks : {m : Mark} {b : ℕ} → 𝓛.le b (level_of m) ≡ true → Moved m (partial b)
 
-  moved-trans : (k m n : Mark) → Moved k m → Moved m n → Moved k n
-  moved-trans k m n (hides h x) (hides l y) = hides h y
-  moved-trans k m n (hides h x) (sinks l) = hides h (λ j. part)
-  moved-trans k m n (sinks h) (hides l y) = hides (no-below h l) y
-  moved-trans k m n (sinks h) (sinks l) = sinks (𝓘.le_trans l h)
+  moved_trans : (k m n : Mark) → Moved k m → Moved m n → Moved k n
+  moved_trans k m n (hides h x) (hides l y) = hides h y
+  moved_trans k m n (hides h x) (sinks l) = hides h (λ j. part)
+  moved_trans k m n (sinks h) (hides l y) = hides (no_below h l) y
+  moved_trans k m n (sinks h) (sinks l) = sinks (𝓘.le_trans l h)
 
   -- what a mark moved to is clear of all, and what was clear of it stays so
-  moved-clear : (k m n : Mark) → Moved m n → Clear k n
-  moved-clear k m n (hides h x) = x k
-  moved-clear k m n (sinks h) = part
+  moved_clear : (k m n : Mark) → Moved m n → Clear k n
+  moved_clear k m n (hides h x) = x k
+  moved_clear k m n (sinks h) = part
 
-  clear-moved : (m n k : Mark) → Clear n m → Moved n k → Clear k m
-  clear-moved m n k part h = part
-  clear-moved m n k (above l) h = above l
-  clear-moved m n k (under l) (hides h x) = above (no-below l h)
-  clear-moved m n k (under l) (sinks h) = under (𝓘.le_trans h l)
+  clear_moved : (m n k : Mark) → Clear n m → Moved n k → Clear k m
+  clear_moved m n k part h = part
+  clear_moved m n k (above l) h = above l
+  clear_moved m n k (under l) (hides h x) = above (no_below l h)
+  clear_moved m n k (under l) (sinks h) = under (𝓘.le_trans h l)
 
   moved_back : (m n : Mark) → Moved m n → Clear n m
   moved_back (partial a) n h = part
   moved_back (whole a) n (hides h x) = above h
   moved_back (whole a) n (sinks h) = under h
 
-  raised-clear : (m : Mark) (context : ℕ) → Secret context → (k : Mark) → Clear k (joined 𝓛 m (whole context))
+  raised_clear : (m : Mark) (context : ℕ) → Secret context → (k : Mark) → Clear k (joined 𝓛 m (whole context))
   unfolding joined
-  raised-clear (whole a) context h k = above (no-below (𝓘.join-upper-right a context) h)
-  raised-clear (partial a) context h k = part
+  raised_clear (whole a) context h k = above (no_below (𝓘.join_upper_right a context) h)
+  raised_clear (partial a) context h k = part
 
-  store-secret : (mode : Mode) (x : Bool) (context : ℕ) (old m : Mark) → 𝓛.le context (levelOf old) ≡ x → Secret context
-      → Fine (Moved old) (stored 𝓛 mode x context (levelOf old) m)
+  store_secret : (mode : Mode) (x : Bool) (context : ℕ) (old m : Mark) → 𝓛.le context (level_of old) ≡ x → Secret context
+      → Fine (Moved old) (stored 𝓛 mode x context (level_of old) m)
   unfolding stored
-  store-secret mode true context old m e h = good (hides (no-below e h) (raised-clear m context h))
-  store-secret strict false context old m e h = bad
-  store-secret permissive false context old m e h = good (sinks (𝓘.meet-lower-right context (levelOf old)))
+  store_secret mode true context old m e h = good (hides (no_below e h) (raised_clear m context h))
+  store_secret strict false context old m e h = bad
+  store_secret permissive false context old m e h = good (sinks (𝓘.meet-lower-right context (level_of old)))
 
   -- ── safe ──────────────────────────────────────────────────────────────────────────────────
 
@@ -155,9 +155,9 @@ module _ (𝓛 : Lattice) (𝓘 : Laws 𝓛) (R : ℕ) where
     secretly = record {
       Inside = Secret;
       Moved = Moved;
-      enter-inside = enter-secret;
-      store-inside = λ place context old m h. store-secret mode _ context old _ refl h;
-      moved-trans = moved-trans;
+      enter-inside = enter_secret;
+      store-inside = λ place context old m h. store_secret mode _ context old _ refl h;
+      moved_trans = moved_trans;
     }
 
     unfoldable safe : Safe (marking 𝓛 mode)
@@ -166,46 +166,46 @@ module _ (𝓛 : Lattice) (𝓘 : Laws 𝓛) (R : ℕ) where
       Blind = Blind;
       Blinds = Blind;
       moving = secretly;
-      read-blind = λ i m n h. h;
-      join-left = λ m n k h. (clear-left m n k h.0, clear-left n m k h.1);
-      join-right = λ m n k h. (clear-right m n k h.0, clear-right n m k h.1);
-      join-both = λ m n m' n' h k. (clear_both m n m' n' h.0 k.0, clear_both n m n' m' h.1 k.1);
-      sealed-blind = (above below, above below);
-      enter-blind = enter-blind;
-      store_same = λ place context a b m. store_same mode (𝓛.le context (levelOf a)) (𝓛.le context (levelOf b)) context (levelOf a) (levelOf b) m;
-      store-blind = λ place context a b m n h. store-blind mode (𝓛.le context (levelOf a)) (𝓛.le context (levelOf b)) context (levelOf a) (levelOf b) m n h;
-      blind-sym = λ m n h. (h.1, h.0);
-      moved-blind = λ m n h. (moved-clear m m n h, moved_back m n h);
-      blind-moved = λ m n k h x. (moved-clear m n k x, clear-moved m n k h.1 x);
+      read_blind = λ i m n h. h;
+      join-left = λ m n k h. (clear_left m n k h.0, clear_left n m k h.1);
+      join-right = λ m n k h. (clear_right m n k h.0, clear_right n m k h.1);
+      join_both = λ m n m' n' h k. (clear_both m n m' n' h.0 k.0, clear_both n m n' m' h.1 k.1);
+      sealed_blind = (above below, above below);
+      enter_blind = enter_blind;
+      store_same = λ place context a b m. store_same mode (𝓛.le context (level_of a)) (𝓛.le context (level_of b)) context (level_of a) (level_of b) m;
+      store_blind = λ place context a b m n h. store_blind mode (𝓛.le context (level_of a)) (𝓛.le context (level_of b)) context (level_of a) (level_of b) m n h;
+      blind_sym = λ m n h. (h.1, h.0);
+      moved_blind = λ m n h. (moved_clear m m n h, moved_back m n h);
+      blind_moved = λ m n k h x. (moved_clear m n k x, clear_moved m n k h.1 x);
     }
 
     -- ── agreement is to be alike ────────────────────────────────────────────────────────────
 
-    half-clear : {A B : ℕ} → (𝓛.le B R ≡ false) ⊎ (𝓛.le A B ≡ true) → Clear (partial A) (whole B)
-    half-clear (inl h) = above h
-    half-clear (inr h) = under h
+    half_clear : {A B : ℕ} → (𝓛.le B R ≡ false) ⊎ (𝓛.le A B ≡ true) → Clear (partial A) (whole B)
+    half_clear (inl h) = above h
+    half_clear (inr h) = under h
 
-    clear-half : {A B : ℕ} → Clear (partial A) (whole B) → (𝓛.le B R ≡ false) ⊎ (𝓛.le A B ≡ true)
-    clear-half (above h) = inl h
-    clear-half (under h) = inr h
+    clear_half : {A B : ℕ} → Clear (partial A) (whole B) → (𝓛.le B R ≡ false) ⊎ (𝓛.le A B ≡ true)
+    clear_half (above h) = inl h
+    clear_half (under h) = inr h
 
-    agree-alike : {c d : Cell Mark} → Agree 𝓛 R c d → Alike Blind c d
-    agree-alike (shown h) = same
-    agree-alike (hidden h k) = blind (above k, above h)
-    agree-alike both-partial = blind (part, part)
-    agree-alike (first-partial h) = blind (half-clear h, part)
-    agree-alike (second-partial h) = blind (part, half-clear h)
+    agree_alike : {c d : Cell Mark} → Agree 𝓛 R c d → Alike Blind c d
+    agree_alike (shown h) = same
+    agree_alike (hidden h k) = blind (above k, above h)
+    agree_alike both_partial = blind (part, part)
+    agree_alike (first_partial h) = blind (half_clear h, part)
+    agree_alike (second_partial h) = blind (part, half_clear h)
 
-    alike-agree : (c d : Cell Mark) → Alike Blind c d → Agree 𝓛 R c d
-    alike-agree c d same = agree_refl 𝓛 R c
-    alike-agree (cell v (whole A)) (cell w (whole B)) (blind (above h, above k)) = hidden k h
-    alike-agree (cell v (partial A)) (cell w (partial B)) (blind h) = both-partial
-    alike-agree (cell v (partial A)) (cell w (whole B)) (blind (h, k)) = first-partial (clear-half h)
-    alike-agree (cell v (whole A)) (cell w (partial B)) (blind (h, k)) = second-partial (clear-half k)
+    alike_agree : (c d : Cell Mark) → Alike Blind c d → Agree 𝓛 R c d
+    alike_agree c d same = agree_refl 𝓛 R c
+    alike_agree (cell v (whole A)) (cell w (whole B)) (blind (above h, above k)) = hidden k h
+    alike_agree (cell v (partial A)) (cell w (partial B)) (blind h) = both_partial
+    alike_agree (cell v (partial A)) (cell w (whole B)) (blind (h, k)) = first_partial (clear_half h)
+    alike_agree (cell v (whole A)) (cell w (partial B)) (blind (h, k)) = second_partial (clear_half k)
 
     pub noninterference : (c : Cmd) (context f g : ℕ) (σ τ : Store Mark) → ((i : ℕ) → Agree 𝓛 R (σ i) (τ i))
         → (σ' τ' : Store Mark) (f' g' : ℕ) → exec (marking 𝓛 mode) c context σ f ≡ done σ' f' → exec (marking 𝓛 mode) c context τ g ≡ done τ' g'
         → (i : ℕ) → Agree 𝓛 R (σ' i) (τ' i)
     unfolding safe
     noninterference c context f g σ τ h σ' τ' f' g' d e i =
-        alike-agree (σ' i) (τ' i) (Noninterference.noninterference (marking 𝓛 mode) safe c context f g σ τ (λ i. agree-alike (h i)) σ' τ' f' g' d e i)
+        alike_agree (σ' i) (τ' i) (Noninterference.noninterference (marking 𝓛 mode) safe c context f g σ τ (λ i. agree_alike (h i)) σ' τ' f' g' d e i)

@@ -7,13 +7,13 @@ use native.Mathlib.Decide.{dec_le}
 use native.Mathlib.Omega.{arith}
 use mathlib.Core.Path.{◌≡◌, refl, sym, ap, ◌∙◌}
 use mathlib.Core.Bool.{Bool, true, false, true≢false}
-use Rattle.value.specs.Values.{isTrue}
-use Rattle.sheet.specs.Trees.{Exp, constant, field, operator, not, seal, Cmd, skip, assign, sequence, ifElse, while}
+use Rattle.value.specs.Values.{is_true}
+use Rattle.sheet.specs.Trees.{Exp, constant, field, operator, not, seal, Cmd, skip, assign, sequence, if_else, while}
 use Rattle.levels.specs.Lattice.{Lattice}
 use Rattle.rules.specs.Ends.{Why, Try, fine, fails, Result, gives, stops, End, done, spent, stopped, at, and_then, with, choose, spend, bind}
-use Rattle.rules.specs.Rules.{Marking, put, reading, operated, inverted, sealing, eval, updated, branch, tested, rounds, execBy, exec}
+use Rattle.rules.specs.Rules.{Marking, put, reading, operated, inverted, sealing, eval, updated, branch, tested, rounds, exec_by, exec}
 use Rattle.store.specs.Cells.{Cell, cell, Store}
-use Rattle.store.specs.Marks.{Mark, strict, permissive, levelOf}
+use Rattle.store.specs.Marks.{Mark, strict, permissive, level_of}
 use Rattle.rules.specs.LevelMarks.{stored, marking}
 
 -- the second goes on wherever the first does; if they are alike, it stops wherever the first does
@@ -27,23 +27,23 @@ pub record Within {Mark Seen Context : Type 0} (alike : Bool) (𝓜 𝓝 : Marki
   pub sealed-same : 𝓜.sealed ≡ 𝓝.sealed
   pub read_same : (i : ℕ) (m : Mark) → 𝓜.read i m ≡ 𝓝.read i m
   pub join-same : (m n : Seen) → 𝓜.join m n ≡ 𝓝.join m n
-  pub enter-on : (context : Context) (m : Seen) → GoesOn alike (𝓜.enter context m) (𝓝.enter context m)
-  pub store-on : (place : ℕ) (context : Context) (old : Mark) (m : Seen) → GoesOn alike (𝓜.store place context old m) (𝓝.store place context old m)
+  pub enter_on : (context : Context) (m : Seen) → GoesOn alike (𝓜.enter context m) (𝓝.enter context m)
+  pub store_on : (place : ℕ) (context : Context) (old : Mark) (m : Seen) → GoesOn alike (𝓜.store place context old m) (𝓝.store place context old m)
 
 -- where the first run is done, so is the second, with the same store and so much more fuel left; if they are alike, where the first stops, so does
 -- the second
 data Follows {Mark : Type 0} (more : ℕ) (alike : Bool) : End Mark → End Mark → Type 0 where
-  done-too : {σ : Store Mark} {f g : ℕ} → g ≡ f + more → Follows more alike (done σ f) (done σ g)
-  spent-free : {place : ℕ} {y : End Mark} → Follows more alike (spent place) y
-  stopped-too : {why : Why} {place f g : ℕ} → g ≡ f + more → Follows more alike (stopped why place f) (stopped why place g)
-  stopped-free : {why : Why} {place left : ℕ} {y : End Mark} → alike ≡ false → Follows more alike (stopped why place left) y
+  done_too : {σ : Store Mark} {f g : ℕ} → g ≡ f + more → Follows more alike (done σ f) (done σ g)
+  spent_free : {place : ℕ} {y : End Mark} → Follows more alike (spent place) y
+  stopped_too : {why : Why} {place f g : ℕ} → g ≡ f + more → Follows more alike (stopped why place f) (stopped why place g)
+  stopped_free : {why : Why} {place left : ℕ} {y : End Mark} → alike ≡ false → Follows more alike (stopped why place left) y
 
-follows-done : {Mark : Type 0} {more left : ℕ} {alike : Bool} {σ : Store Mark} {y : End Mark} → Follows more alike (done σ left) y → y ≡ done σ (left + more)
-follows-done (done-too {σ} e) = ap (done σ) e
+follows_done : {Mark : Type 0} {more left : ℕ} {alike : Bool} {σ : Store Mark} {y : End Mark} → Follows more alike (done σ left) y → y ≡ done σ (left + more)
+follows_done (done_too {σ} e) = ap (done σ) e
 
-follows-stopped : {Mark : Type 0} {more left place : ℕ} {why : Why} {y : End Mark} → Follows more true (stopped why place left) y → y ≡ stopped why place (left + more)
-follows-stopped (stopped-too {why} {place} e) = ap (stopped why place) e
-follows-stopped (stopped-free d) = absurd (true≢false d)
+follows_stopped : {Mark : Type 0} {more left place : ℕ} {why : Why} {y : End Mark} → Follows more true (stopped why place left) y → y ≡ stopped why place (left + more)
+follows_stopped (stopped_too {why} {place} e) = ap (stopped why place) e
+follows_stopped (stopped_free d) = absurd (true≢false d)
 
 module _ {Mark Seen Context : Type 0} {alike : Bool} {𝓜 𝓝 : Marking Mark Seen Context} (𝓦 : Within alike 𝓜 𝓝) (more : ℕ) where
   -- ── the ways to go on ─────────────────────────────────────────────────────────────────────
@@ -55,36 +55,36 @@ module _ {Mark Seen Context : Type 0} {alike : Bool} {𝓜 𝓝 : Marking Mark S
   abbrev FollowsOn : (ℕ → End Mark) → (ℕ → End Mark) → Type 0
   FollowsOn x y = (f g : ℕ) → g ≡ f + more → Too (x f) (y g)
 
-  spend-follows : (place : ℕ) {x y : ℕ → End Mark} → FollowsOn x y → FollowsOn (λ f. spend place f x) (λ g. spend place g y)
+  spend_follows : (place : ℕ) {x y : ℕ → End Mark} → FollowsOn x y → FollowsOn (λ f. spend place f x) (λ g. spend place g y)
   unfolding spend
-  spend-follows place h zero g e = spent-free
-  spend-follows place h (suc f) zero e = absurd (omega arith)
-  spend-follows place h (suc f) (suc g) e = h f g (omega arith)
+  spend_follows place h zero g e = spent_free
+  spend_follows place h (suc f) zero e = absurd (omega arith)
+  spend_follows place h (suc f) (suc g) e = h f g (omega arith)
 
-  with-follows : {A : Type 0} (x : Result A) (f g : ℕ) {k l : A → End Mark} → g ≡ f + more → ((a : A) → Too (k a) (l a)) → Too (with x f k) (with x g l)
+  with_follows : {A : Type 0} (x : Result A) (f g : ℕ) {k l : A → End Mark} → g ≡ f + more → ((a : A) → Too (k a) (l a)) → Too (with x f k) (with x g l)
   unfolding with
-  with-follows (gives a) f g e h = h a
-  with-follows (stops why place) f g e h = stopped-too e
+  with_follows (gives a) f g e h = h a
+  with_follows (stops why place) f g e h = stopped_too e
 
-  on-follows : {A : Type 0} (place f g : ℕ) {x y : Try A} {k l : A → End Mark} → g ≡ f + more → GoesOn alike x y → ((a : A) → Too (k a) (l a))
+  on_follows : {A : Type 0} (place f g : ℕ) {x y : Try A} {k l : A → End Mark} → g ≡ f + more → GoesOn alike x y → ((a : A) → Too (k a) (l a))
       → Too (with (at place x) f k) (with (at place y) g l)
   unfolding with at
-  on-follows place f g e (on {a}) h = h a
-  on-follows place f g e off h = stopped-too e
-  on-follows place f g e (free d) h = stopped-free d
+  on_follows place f g e (on {a}) h = h a
+  on_follows place f g e off h = stopped_too e
+  on_follows place f g e (free d) h = stopped_free d
 
-  choose-follows : (b : Bool) (c : Context) {x y x' y' : Context → End Mark} → ((c : Context) → Too (x c) (x' c)) → ((c : Context) → Too (y c) (y' c))
+  choose_follows : (b : Bool) (c : Context) {x y x' y' : Context → End Mark} → ((c : Context) → Too (x c) (x' c)) → ((c : Context) → Too (y c) (y' c))
       → Too (choose b x y c) (choose b x' y' c)
   unfolding choose
-  choose-follows true c h k = h c
-  choose-follows false c h k = k c
+  choose_follows true c h k = h c
+  choose_follows false c h k = k c
 
-  bind-follows : {x y : End Mark} {k l : Store Mark → ℕ → End Mark} → Too x y → ((σ : Store Mark) → FollowsOn (k σ) (l σ)) → Too (bind x k) (bind y l)
+  bind_follows : {x y : End Mark} {k l : Store Mark → ℕ → End Mark} → Too x y → ((σ : Store Mark) → FollowsOn (k σ) (l σ)) → Too (bind x k) (bind y l)
   unfolding bind
-  bind-follows (done-too {σ} {f} {g} e) h = h σ f g e
-  bind-follows spent-free h = spent-free
-  bind-follows (stopped-too e) h = stopped-too e
-  bind-follows (stopped-free d) h = stopped-free d
+  bind_follows (done_too {σ} {f} {g} e) h = h σ f g e
+  bind_follows spent_free h = spent_free
+  bind_follows (stopped_too e) h = stopped_too e
+  bind_follows (stopped_free d) h = stopped_free d
 
   -- ── the rules ─────────────────────────────────────────────────────────────────────────────
 
@@ -120,52 +120,52 @@ module _ {Mark Seen Context : Type 0} {alike : Bool} {𝓜 𝓝 : Marking Mark S
   branch_follows : (place : ℕ) (context : Context) (x : Cell Seen) (f g : ℕ) {y n y' n' : Context → End Mark} → g ≡ f + more
       → ((c : Context) → Too (y c) (y' c)) → ((c : Context) → Too (n c) (n' c)) → Too (branch 𝓜 place context x f y n) (branch 𝓝 place context x g y' n')
   unfolding branch
-  branch_follows place context (cell v m) f g e h k = on-follows place f g e (𝓦.enter-on context m) (λ c. choose-follows (isTrue v) c h k)
+  branch_follows place context (cell v m) f g e h k = on_follows place f g e (𝓦.enter_on context m) (λ c. choose_follows (is_true v) c h k)
 
-  tested-follows : (place : ℕ) (a : Exp) (context : Context) (σ : Store Mark) {y n y' n' : Context → ℕ → End Mark}
+  tested_follows : (place : ℕ) (a : Exp) (context : Context) (σ : Store Mark) {y n y' n' : Context → ℕ → End Mark}
       → ((c : Context) → FollowsOn (y c) (y' c)) → ((c : Context) → FollowsOn (n c) (n' c))
       → FollowsOn (λ f. tested 𝓜 place a context σ f y n) (λ g. tested 𝓝 place a context σ g y' n')
   unfolding tested
-  tested-follows place a context σ h k =
-      spend-follows place (λ f g e. rw (← eval-same a σ) (with-follows (eval 𝓜 a σ) f g e (λ x. branch_follows place context x f g e (λ c. h c f g e) (λ c. k c f g e))))
+  tested_follows place a context σ h k =
+      spend_follows place (λ f g e. rw (← eval-same a σ) (with_follows (eval 𝓜 a σ) f g e (λ x. branch_follows place context x f g e (λ c. h c f g e) (λ c. k c f g e))))
 
-  updated-follows : (place i : ℕ) (context : Context) (σ : Store Mark) (old : Cell Mark) (x : Cell Seen)
+  updated_follows : (place i : ℕ) (context : Context) (σ : Store Mark) (old : Cell Mark) (x : Cell Seen)
       → FollowsOn (λ f. with (updated 𝓜 place context old x) f (λ k. done (put i k σ) f)) (λ g. with (updated 𝓝 place context old x) g (λ k. done (put i k σ) g))
   unfolding updated with and_then at
-  updated-follows place i context σ (cell w old) (cell v m) f g e = go (𝓦.store-on place context old m)
+  updated_follows place i context σ (cell w old) (cell v m) f g e = go (𝓦.store_on place context old m)
     where
       go : {x y : Try Mark} → GoesOn alike x y
           → Too (with (and_then (at place x) (λ k. gives (cell v k))) f (λ k. done (put i k σ) f))
           (with (and_then (at place y) (λ k. gives (cell v k))) g (λ k. done (put i k σ) g))
-      go on = done-too e
-      go off = stopped-too e
-      go (free d) = stopped-free d
+      go on = done_too e
+      go off = stopped_too e
+      go (free d) = stopped_free d
 
-  rounds-follows : (place : ℕ) (a : Exp) (b b' : Context → Store Mark → ℕ → End Mark) → ((c : Context) (σ : Store Mark) → FollowsOn (b c σ) (b' c σ))
+  rounds_follows : (place : ℕ) (a : Exp) (b b' : Context → Store Mark → ℕ → End Mark) → ((c : Context) (σ : Store Mark) → FollowsOn (b c σ) (b' c σ))
       → (m n : ℕ) → n ≡ m + more → (context : Context) (σ : Store Mark) → FollowsOn (rounds 𝓜 place a b m context σ) (rounds 𝓝 place a b' n context σ)
   unfolding rounds
-  rounds-follows place a b b' h zero n e context σ f g d = spent-free
-  rounds-follows place a b b' h (suc m) zero e context σ f g d = absurd (omega arith)
-  rounds-follows place a b b' h (suc m) (suc n) e context σ f g d =
-      tested-follows place a context σ (λ c f g d. bind-follows (h _ σ f g d) (rounds-follows place a b b' h m n (omega arith) c)) (λ c f g d. done-too d) f g d
+  rounds_follows place a b b' h zero n e context σ f g d = spent_free
+  rounds_follows place a b b' h (suc m) zero e context σ f g d = absurd (omega arith)
+  rounds_follows place a b b' h (suc m) (suc n) e context σ f g d =
+      tested_follows place a context σ (λ c f g d. bind_follows (h _ σ f g d) (rounds_follows place a b b' h m n (omega arith) c)) (λ c f g d. done_too d) f g d
 
-  exec-follows : (c : Cmd) (context : Context) (σ : Store Mark) → FollowsOn (exec 𝓜 c context σ) (exec 𝓝 c context σ)
-  unfolding execBy
-  exec-follows (skip place) context σ f g d = spend-follows place (λ f g d. done-too d) f g d
-  exec-follows (assign place i b) context σ f g d =
-      spend-follows place (λ f g d. rw (← eval-same b σ) (with-follows (eval 𝓜 b σ) f g d (λ x. updated-follows place i context σ (σ i) x f g d))) f g d
-  exec-follows (sequence a b) context σ f g d = bind-follows (exec-follows a context σ f g d) (exec-follows b context)
-  exec-follows (ifElse place a b c) context σ f g d = tested-follows place a context σ (λ k. exec-follows b k σ) (λ k. exec-follows c k σ) f g d
-  exec-follows (while place a b) context σ f g d = rounds-follows place a (exec 𝓜 b) (exec 𝓝 b) (exec-follows b) f g d context σ f g d
+  exec_follows : (c : Cmd) (context : Context) (σ : Store Mark) → FollowsOn (exec 𝓜 c context σ) (exec 𝓝 c context σ)
+  unfolding exec_by
+  exec_follows (skip place) context σ f g d = spend_follows place (λ f g d. done_too d) f g d
+  exec_follows (assign place i b) context σ f g d =
+      spend_follows place (λ f g d. rw (← eval-same b σ) (with_follows (eval 𝓜 b σ) f g d (λ x. updated_follows place i context σ (σ i) x f g d))) f g d
+  exec_follows (sequence a b) context σ f g d = bind_follows (exec_follows a context σ f g d) (exec_follows b context)
+  exec_follows (if_else place a b c) context σ f g d = tested_follows place a context σ (λ k. exec_follows b k σ) (λ k. exec_follows c k σ) f g d
+  exec_follows (while place a b) context σ f g d = rounds_follows place a (exec 𝓜 b) (exec 𝓝 b) (exec_follows b) f g d context σ f g d
 
   pub done-within : (c : Cmd) (context : Context) (σ τ : Store Mark) (fuel left : ℕ) → exec 𝓜 c context σ fuel ≡ done τ left
       → exec 𝓝 c context σ (fuel + more) ≡ done τ (left + more)
-  done-within c context σ τ fuel left e = follows-done (rw e at (exec-follows c context σ fuel (fuel + more) refl))
+  done-within c context σ τ fuel left e = follows_done (rw e at (exec_follows c context σ fuel (fuel + more) refl))
 
 module _ {Mark Seen Context : Type 0} {𝓜 𝓝 : Marking Mark Seen Context} (𝓦 : Within true 𝓜 𝓝) where
   pub stopped-within : (more : ℕ) (c : Cmd) (context : Context) (σ : Store Mark) (fuel : ℕ) (why : Why) (place left : ℕ) → exec 𝓜 c context σ fuel ≡ stopped why place left
       → exec 𝓝 c context σ (fuel + more) ≡ stopped why place (left + more)
-  stopped-within more c context σ fuel why place left e = follows-stopped (rw e at (exec-follows 𝓦 more c context σ fuel (fuel + more) refl))
+  stopped-within more c context σ fuel why place left e = follows_stopped (rw e at (exec_follows 𝓦 more c context σ fuel (fuel + more) refl))
 
 -- ── more fuel ───────────────────────────────────────────────────────────────────────────────
 
@@ -179,45 +179,45 @@ goes_on (fine a) = on
 goes_on (fails why) = off
 
 module _ {Mark Seen Context : Type 0} (𝓜 : Marking Mark Seen Context) where
-  within-itself : Within true 𝓜 𝓜
-  within-itself = record {
+  within_itself : Within true 𝓜 𝓜
+  within_itself = record {
     constant-same = refl;
     sealed-same = refl;
     read_same = λ i m. refl;
     join-same = λ m n. refl;
-    enter-on = λ context m. goes_on (𝓜.enter context m);
-    store-on = λ place context old m. goes_on (𝓜.store place context old m);
+    enter_on = λ context m. goes_on (𝓜.enter context m);
+    store_on = λ place context old m. goes_on (𝓜.store place context old m);
   }
 
   module _ (c : Cmd) (context : Context) (σ : Store Mark) where
-    pub more-fuel : (more : ℕ) (τ : Store Mark) (fuel left : ℕ) → exec 𝓜 c context σ fuel ≡ done τ left → exec 𝓜 c context σ (fuel + more) ≡ done τ (left + more)
-    more-fuel more τ fuel left e = done-within within-itself more c context σ τ fuel left e
+    pub more_fuel : (more : ℕ) (τ : Store Mark) (fuel left : ℕ) → exec 𝓜 c context σ fuel ≡ done τ left → exec 𝓜 c context σ (fuel + more) ≡ done τ (left + more)
+    more_fuel more τ fuel left e = done-within within_itself more c context σ τ fuel left e
 
-    pub more-fuel-stopped : (more fuel : ℕ) (why : Why) (place left : ℕ) → exec 𝓜 c context σ fuel ≡ stopped why place left
+    pub more_fuel_stopped : (more fuel : ℕ) (why : Why) (place left : ℕ) → exec 𝓜 c context σ fuel ≡ stopped why place left
         → exec 𝓜 c context σ (fuel + more) ≡ stopped why place (left + more)
-    more-fuel-stopped more fuel why place left e = stopped-within within-itself more c context σ fuel why place left e
+    more_fuel_stopped more fuel why place left e = stopped-within within_itself more c context σ fuel why place left e
 
     -- no run is done with one fuel and stops with another
-    pub done-or-stopped : (f g f' g' : ℕ) (σ' : Store Mark) (why : Why) (place : ℕ) → exec 𝓜 c context σ f ≡ done σ' f' → exec 𝓜 c context σ g ≡ stopped why place g' → ⊥
+    pub done_or_stopped : (f g f' g' : ℕ) (σ' : Store Mark) (why : Why) (place : ℕ) → exec 𝓜 c context σ f ≡ done σ' f' → exec 𝓜 c context σ g ≡ stopped why place g' → ⊥
     unfolding is-done
-    done-or-stopped f g f' g' σ' why place d e =
-        let x = more-fuel g σ' f f' d in
-        let y = rw (add_comm g f) at (more-fuel-stopped f g why place g' e) in
+    done_or_stopped f g f' g' σ' why place d e =
+        let x = more_fuel g σ' f f' d in
+        let y = rw (add_comm g f) at (more_fuel_stopped f g why place g' e) in
         true≢false (ap is-done (sym x ∙ y))
 
     -- with any two fuels, a run that is done ends in one store
-    once-ordered : (f g f' g' : ℕ) (σ' τ' : Store Mark) → exec 𝓜 c context σ f ≡ done σ' f' → exec 𝓜 c context σ g ≡ done τ' g' → f ≤ g → σ' ≡ τ'
-    once-ordered f g f' g' σ' τ' d e h =
+    once_ordered : (f g f' g' : ℕ) (σ' τ' : Store Mark) → exec 𝓜 c context σ f ≡ done σ' f' → exec 𝓜 c context σ g ≡ done τ' g' → f ≤ g → σ' ≡ τ'
+    once_ordered f g f' g' σ' τ' d e h =
         let s : f + (g - f) ≡ g = omega arith in
-        let k = rw s at (more-fuel (g - f) σ' f f' d) in
+        let k = rw s at (more_fuel (g - f) σ' f f' d) in
         cc
 
     pub done-once : (f g f' g' : ℕ) (σ' τ' : Store Mark) → exec 𝓜 c context σ f ≡ done σ' f' → exec 𝓜 c context σ g ≡ done τ' g' → σ' ≡ τ'
     done-once f g f' g' σ' τ' d e = go (dec_le f g)
       where
         go : Dec (f ≤ g) → σ' ≡ τ'
-        go (yes h) = once-ordered f g f' g' σ' τ' d e h
-        go (no h) = sym (once-ordered g f g' f' τ' σ' e d (omega arith))
+        go (yes h) = once_ordered f g f' g' σ' τ' d e h
+        go (no h) = sym (once_ordered g f g' f' τ' σ' e d (omega arith))
 
 -- ── strict inside permissive ────────────────────────────────────────────────────────────────
 
@@ -233,10 +233,10 @@ module _ (𝓛 : Lattice) where
     sealed-same = refl;
     read_same = λ i m. refl;
     join-same = λ m n. refl;
-    enter-on = λ context m. goes_on ((marking 𝓛 strict).enter context m);
-    store-on = λ place context old m. stored_on _ context (levelOf old) _;
+    enter_on = λ context m. goes_on ((marking 𝓛 strict).enter context m);
+    store_on = λ place context old m. stored_on _ context (level_of old) _;
   }
 
-  pub strict-permissive : (c : Cmd) (context : ℕ) (σ τ : Store Mark) (fuel left : ℕ)
+  pub strict_permissive : (c : Cmd) (context : ℕ) (σ τ : Store Mark) (fuel left : ℕ)
       → exec (marking 𝓛 strict) c context σ fuel ≡ done τ left → exec (marking 𝓛 permissive) c context σ fuel ≡ done τ left
-  strict-permissive c context σ τ fuel left e = rw (add-zero fuel, add-zero left) at (done-within strict-within 0 c context σ τ fuel left e)
+  strict_permissive c context σ τ fuel left e = rw (add-zero fuel, add-zero left) at (done-within strict-within 0 c context σ τ fuel left e)

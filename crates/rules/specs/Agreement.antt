@@ -15,10 +15,10 @@ module _ (𝓛 : Lattice) (R : ℕ) where
     -- both whole at levels not at or below R;
     hidden : {v w : Value} {A B : ℕ} → 𝓛.le A R ≡ false → 𝓛.le B R ≡ false → Agree (cell v (whole A)) (cell w (whole B))
     -- both partial;
-    both-partial : {v w : Value} {A B : ℕ} → Agree (cell v (partial A)) (cell w (partial B))
+    both_partial : {v w : Value} {A B : ℕ} → Agree (cell v (partial A)) (cell w (partial B))
     -- one partial at A, the other whole at B, with B not at or below R, or A at or below B.
-    first-partial : {v w : Value} {A B : ℕ} → (𝓛.le B R ≡ false) ⊎ (𝓛.le A B ≡ true) → Agree (cell v (partial A)) (cell w (whole B))
-    second-partial : {v w : Value} {A B : ℕ} → (𝓛.le B R ≡ false) ⊎ (𝓛.le A B ≡ true) → Agree (cell w (whole B)) (cell v (partial A))
+    first_partial : {v w : Value} {A B : ℕ} → (𝓛.le B R ≡ false) ⊎ (𝓛.le A B ≡ true) → Agree (cell v (partial A)) (cell w (whole B))
+    second_partial : {v w : Value} {A B : ℕ} → (𝓛.le B R ≡ false) ⊎ (𝓛.le A B ≡ true) → Agree (cell w (whole B)) (cell v (partial A))
 
   -- Same field count, and for each field one of these. A store begins with its count.
   pub record StoresAgree (s t : List ℕ) : Type 0 where

@@ -4,7 +4,7 @@
 use Rattle.std.specs.Prelude.{ℕ, zero, suc, ◌≡◌}
 use Rattle.sheet.specs.Trees.{Exp, Cmd}
 use Rattle.levels.specs.Lattice.{Lattice, Laws}
-use Rattle.rules.specs.Rules.{Marking, tested, execBy, exec}
+use Rattle.rules.specs.Rules.{Marking, tested, exec_by, exec}
 use Rattle.store.specs.Cells.{Store}
 use Rattle.rules.specs.Ends.{End, done, spent, bind}
 use Rattle.store.specs.Marks.{Mode}
@@ -18,8 +18,8 @@ module _ {Mark Seen Context : Type 0} (𝓜 : Marking Mark Seen Context) where
       tested 𝓜 place a context σ fuel (λ c left. bind (body c σ left) (dropping place a body bound context)) (λ c left. done σ left)
 
   -- as `exec`, with every while so
-  abbrev pub execDropping : Cmd → Context → Store Mark → ℕ → End Mark
-  execDropping = execBy 𝓜 (λ place a body context σ fuel. dropping place a body fuel context σ fuel)
+  abbrev pub exec_dropping : Cmd → Context → Store Mark → ℕ → End Mark
+  exec_dropping = exec_by 𝓜 (λ place a body context σ fuel. dropping place a body fuel context σ fuel)
 
 abbrev pub DroppingSame : Type 0
-DroppingSame = (𝓛 : Lattice) → Laws 𝓛 → (mode : Mode) (c : Cmd) → execDropping (marking 𝓛 mode) c ≡ exec (marking 𝓛 mode) c
+DroppingSame = (𝓛 : Lattice) → Laws 𝓛 → (mode : Mode) (c : Cmd) → exec_dropping (marking 𝓛 mode) c ≡ exec (marking 𝓛 mode) c

@@ -5,13 +5,13 @@ use Rattle.store.specs.Cells.{Store}
 
 -- why a run stops, but for its fuel
 pub data Why : Type 0 where
-  outOfRange divisorZero notBelow partialTest : Why
+  out_of_range divisor_zero not_below partial_test : Why
 
-abbrev pub stopNumber : Why → ℕ
-stopNumber outOfRange = numbers.outOfRange  -- result out of range
-stopNumber divisorZero = numbers.divisorZero  -- divisor 0
-stopNumber notBelow = numbers.notBelow  -- strict: context not at or below the field's level
-stopNumber partialTest = numbers.partialTest  -- permissive: partial test
+abbrev pub stop_number : Why → ℕ
+stop_number out_of_range = numbers.out_of_range  -- result out of range
+stop_number divisor_zero = numbers.divisor_zero  -- divisor 0
+stop_number not_below = numbers.not_below  -- strict: context not at or below the field's level
+stop_number partial_test = numbers.partial_test  -- permissive: partial test
 
 -- an answer, or why there is none
 pub data Try (A : Type 0) : Type 0 where
@@ -46,8 +46,8 @@ module _ {A : Type 0} where
 
     -- the context goes to the side that is taken
     unfoldable pub choose : Bool → (A → End B) → (A → End B) → A → End B
-    choose true yes-side no-side context = yes-side context
-    choose false yes-side no-side context = no-side context
+    choose true yes_side no_side context = yes_side context
+    choose false yes_side no_side context = no_side context
 
   -- one unit is spent before anything else; with none left the run stops there
   unfoldable pub spend : ℕ → ℕ → (ℕ → End A) → End A

@@ -2,16 +2,16 @@
 -- and document 01's not and seal beside them. The paper's label A is `whole A`, its A* is `partial A`, and pc is the context.
 -- `proofs/Published.antt` proves the statements.
 use Rattle.std.specs.Prelude.{ℕ, ◌≤◌, ◌≡◌, true, false}
-use Rattle.value.specs.Values.{operatorOf, notOf, isTrue}
+use Rattle.value.specs.Values.{operator_of, not_of, is_true}
 use Rattle.value.specs.declared.Value.{Value}
 use Rattle.value.specs.declared.Computed.TheVariants.{Is}
 use Rattle.levels.specs.Lattice.{Lattice, Laws}
 use Rattle.sheet.specs.Trees as tree
-use Rattle.sheet.specs.Trees.{Exp, constant, field, operator, Cmd, assign, sequence, ifElse, while}
+use Rattle.sheet.specs.Trees.{Exp, constant, field, operator, Cmd, assign, sequence, if_else, while}
 use Rattle.store.specs.Cells.{cell, Store}
 use Rattle.rules.specs.Rules.{put, exec}
 use Rattle.rules.specs.Ends.{Why, End, done, spent, stopped}
-use Rattle.store.specs.Marks.{Mark, whole, partial, Mode, strict, permissive, levelOf}
+use Rattle.store.specs.Marks.{Mark, whole, partial, Mode, strict, permissive, level_of}
 use Rattle.rules.specs.LevelMarks.{joined, marking}
 
 module _ (𝓛 : Lattice) where
@@ -19,10 +19,10 @@ module _ (𝓛 : Lattice) where
   pub data Evaluates (σ : Store Mark) : Exp → Value → Mark → Type 0 where
     const : {n : Value} → Evaluates σ (constant n) n (whole 𝓛.bot)
     var : {x : ℕ} {n : Value} {k : Mark} → σ x ≡ cell n k → Evaluates σ (field x) n k
-    oper : {place op : ℕ} {e' e'' : Exp} {n n' n'' : Value} {k' k'' : Mark} → Evaluates σ e' n' k' → Evaluates σ e'' n'' k'' → operatorOf op n' n'' ≡ Is n
+    oper : {place op : ℕ} {e' e'' : Exp} {n n' n'' : Value} {k' k'' : Mark} → Evaluates σ e' n' k' → Evaluates σ e'' n'' k'' → operator_of op n' n'' ≡ Is n
         → Evaluates σ (operator place op e' e'') n (joined 𝓛 k' k'')
     -- "Not" keeps the mark.
-    not : {e : Exp} {n : Value} {k : Mark} → Evaluates σ e n k → Evaluates σ (tree.not e) (notOf n) k
+    not : {e : Exp} {n : Value} {k : Mark} → Evaluates σ e n k → Evaluates σ (tree.not e) (not_of n) k
     -- Seal gives whole TOP, whatever stood there.
     seal : {e : Exp} {n : Value} {k : Mark} → Evaluates σ e n k → Evaluates σ (tree.seal e) n (whole 𝓛.top)
 
@@ -31,22 +31,22 @@ module _ (𝓛 : Lattice) where
     skip : {mode : Mode} {place pc : ℕ} {σ : Store Mark} → Executes mode (tree.skip place) pc σ σ
     seq : {mode : Mode} {pc : ℕ} {c₁ c₂ : Cmd} {σ σ'' σ' : Store Mark} → Executes mode c₁ pc σ σ'' → Executes mode c₂ pc σ'' σ'
         → Executes mode (sequence c₁ c₂) pc σ σ'
-    if-else-t : {mode : Mode} {place pc A : ℕ} {e : Exp} {c₁ c₂ : Cmd} {σ σ' : Store Mark} {n : Value} → Evaluates σ e n (whole A) → isTrue n ≡ true
-        → Executes mode c₁ (𝓛.join pc A) σ σ' → Executes mode (ifElse place e c₁ c₂) pc σ σ'
-    if-else-f : {mode : Mode} {place pc A : ℕ} {e : Exp} {c₁ c₂ : Cmd} {σ σ' : Store Mark} {n : Value} → Evaluates σ e n (whole A) → isTrue n ≡ false
-        → Executes mode c₂ (𝓛.join pc A) σ σ' → Executes mode (ifElse place e c₁ c₂) pc σ σ'
-    while-t : {mode : Mode} {place pc A : ℕ} {e : Exp} {c : Cmd} {σ σ'' σ' : Store Mark} {n : Value} → Evaluates σ e n (whole A) → isTrue n ≡ true
+    if_else_t : {mode : Mode} {place pc A : ℕ} {e : Exp} {c₁ c₂ : Cmd} {σ σ' : Store Mark} {n : Value} → Evaluates σ e n (whole A) → is_true n ≡ true
+        → Executes mode c₁ (𝓛.join pc A) σ σ' → Executes mode (if_else place e c₁ c₂) pc σ σ'
+    if_else_f : {mode : Mode} {place pc A : ℕ} {e : Exp} {c₁ c₂ : Cmd} {σ σ' : Store Mark} {n : Value} → Evaluates σ e n (whole A) → is_true n ≡ false
+        → Executes mode c₂ (𝓛.join pc A) σ σ' → Executes mode (if_else place e c₁ c₂) pc σ σ'
+    while_t : {mode : Mode} {place pc A : ℕ} {e : Exp} {c : Cmd} {σ σ'' σ' : Store Mark} {n : Value} → Evaluates σ e n (whole A) → is_true n ≡ true
         → Executes mode c (𝓛.join pc A) σ σ'' → Executes mode (while place e c) (𝓛.join pc A) σ'' σ' → Executes mode (while place e c) pc σ σ'
-    while-f : {mode : Mode} {place pc A : ℕ} {e : Exp} {c : Cmd} {σ : Store Mark} {n : Value} → Evaluates σ e n (whole A) → isTrue n ≡ false
+    while_f : {mode : Mode} {place pc A : ℕ} {e : Exp} {c : Cmd} {σ : Store Mark} {n : Value} → Evaluates σ e n (whole A) → is_true n ≡ false
         → Executes mode (while place e c) pc σ σ
     -- figure 3, for strict mode
-    assn-NSU : {place pc x : ℕ} {e : Exp} {σ : Store Mark} {o n : Value} {l m : Mark} → σ x ≡ cell o l → 𝓛.le pc (levelOf l) ≡ true → Evaluates σ e n m
+    assn_nsu : {place pc x : ℕ} {e : Exp} {σ : Store Mark} {o n : Value} {l m : Mark} → σ x ≡ cell o l → 𝓛.le pc (level_of l) ≡ true → Evaluates σ e n m
         → Executes strict (assign place x e) pc σ (put x (cell n (joined 𝓛 (whole pc) m)) σ)
     -- figure 5, for permissive mode
-    assn-1 : {place pc x : ℕ} {e : Exp} {σ : Store Mark} {o n : Value} {l m : Mark} → σ x ≡ cell o l → Evaluates σ e n m → 𝓛.le pc (levelOf l) ≡ true
+    assn_1 : {place pc x : ℕ} {e : Exp} {σ : Store Mark} {o n : Value} {l m : Mark} → σ x ≡ cell o l → Evaluates σ e n m → 𝓛.le pc (level_of l) ≡ true
         → Executes permissive (assign place x e) pc σ (put x (cell n (joined 𝓛 (whole pc) m)) σ)
-    assn-2 : {place pc x : ℕ} {e : Exp} {σ : Store Mark} {o n : Value} {l m : Mark} → σ x ≡ cell o l → Evaluates σ e n m → 𝓛.le pc (levelOf l) ≡ false
-        → Executes permissive (assign place x e) pc σ (put x (cell n (partial (𝓛.meet pc (levelOf l)))) σ)
+    assn_2 : {place pc x : ℕ} {e : Exp} {σ : Store Mark} {o n : Value} {l m : Mark} → σ x ≡ cell o l → Evaluates σ e n m → 𝓛.le pc (level_of l) ≡ false
+        → Executes permissive (assign place x e) pc σ (put x (cell n (partial (𝓛.meet pc (level_of l)))) σ)
 
   -- the rules' run is done with some fuel
   pub record Runs (mode : Mode) (c : Cmd) (pc : ℕ) (σ σ' : Store Mark) : Type 0 where

@@ -5,10 +5,10 @@ use Rattle.std.specs.Prelude.{ℕ, zero, suc, ◌≡◌, Bool, true, false}
 use Rattle.sheet.specs.Trees.{Exp, Cmd}
 use Rattle.levels.specs.Lattice.{Lattice, Laws}
 use Rattle.rules.specs.Ends.{Try, fine, End, done, spent, bind}
-use Rattle.rules.specs.Rules.{Marking, tested, Loop, execBy, exec}
+use Rattle.rules.specs.Rules.{Marking, tested, Loop, exec_by, exec}
 use Rattle.store.specs.Cells.{Store}
 use Rattle.store.specs.Marks.{Mark, whole, partial, Mode, strict, permissive}
-use Rattle.rules.specs.LevelMarks.{stored, markingBy, leaving, marking}
+use Rattle.rules.specs.LevelMarks.{stored, marking_by, leaving, marking}
 use Rattle.rules.specs.Agreement.{Agree}
 use Rattle.rules.specs.Published.{Executes}
 
@@ -37,41 +37,41 @@ KeepsToRules monitor =
 
 -- Keeping A instead of the meet in the permissive store.
 module _ (𝓛 : Lattice) where
-  unfoldable pub storedKeeping : Mode → Bool → ℕ → ℕ → Mark → Try Mark
-  storedKeeping mode true context A m = stored 𝓛 mode true context A m
-  storedKeeping strict false context A m = stored 𝓛 strict false context A m
-  storedKeeping permissive false context A m = fine (partial A)
+  unfoldable pub stored_keeping : Mode → Bool → ℕ → ℕ → Mark → Try Mark
+  stored_keeping mode true context A m = stored 𝓛 mode true context A m
+  stored_keeping strict false context A m = stored 𝓛 strict false context A m
+  stored_keeping permissive false context A m = fine (partial A)
 
-abbrev pub aKept : Monitor
-aKept 𝓛 mode = exec (markingBy 𝓛 (leaving 𝓛 (storedKeeping 𝓛 mode)))
+abbrev pub a_kept : Monitor
+a_kept 𝓛 mode = exec (marking_by 𝓛 (leaving 𝓛 (stored_keeping 𝓛 mode)))
 
 -- Dropping a loop's raised context before the next test: later rounds run in the old one.
 module _ {Mark Seen Context : Type 0} (𝓜 : Marking Mark Seen Context) where
-  unfoldable pub laterRounds : ℕ → Exp → (Context → Store Mark → ℕ → End Mark) → ℕ → Context → Store Mark → ℕ → End Mark
-  laterRounds place a body zero context σ fuel = spent place
-  laterRounds place a body (suc bound) context σ fuel =
-      tested 𝓜 place a context σ fuel (λ c left. bind (body context σ left) (laterRounds place a body bound context)) (λ c left. done σ left)
+  unfoldable pub later_rounds : ℕ → Exp → (Context → Store Mark → ℕ → End Mark) → ℕ → Context → Store Mark → ℕ → End Mark
+  later_rounds place a body zero context σ fuel = spent place
+  later_rounds place a body (suc bound) context σ fuel =
+      tested 𝓜 place a context σ fuel (λ c left. bind (body context σ left) (later_rounds place a body bound context)) (λ c left. done σ left)
 
-  abbrev pub loopingOld : Loop 𝓜
-  loopingOld place a body context σ fuel =
-      tested 𝓜 place a context σ fuel (λ c left. bind (body c σ left) (laterRounds place a body left context)) (λ c left. done σ left)
+  abbrev pub looping_old : Loop 𝓜
+  looping_old place a body context σ fuel =
+      tested 𝓜 place a context σ fuel (λ c left. bind (body c σ left) (later_rounds place a body left context)) (λ c left. done σ left)
 
-abbrev pub oldContextLater : Monitor
-oldContextLater 𝓛 mode = execBy (marking 𝓛 mode) (loopingOld (marking 𝓛 mode))
+abbrev pub old_context_later : Monitor
+old_context_later 𝓛 mode = exec_by (marking 𝓛 mode) (looping_old (marking 𝓛 mode))
 
 -- Treating partial as above TOP, so a partial field could never be overwritten clean: no context lies at or below one.
 module _ (𝓛 : Lattice) where
-  unfoldable pub storedAbove : Mode → ℕ → Mark → Mark → Try Mark
-  storedAbove mode context (whole A) m = stored 𝓛 mode (𝓛.le context A) context A m
-  storedAbove mode context (partial A) m = stored 𝓛 mode false context A m
+  unfoldable pub stored_above : Mode → ℕ → Mark → Mark → Try Mark
+  stored_above mode context (whole A) m = stored 𝓛 mode (𝓛.le context A) context A m
+  stored_above mode context (partial A) m = stored 𝓛 mode false context A m
 
-abbrev pub neverClean : Monitor
-neverClean 𝓛 mode = exec (markingBy 𝓛 (storedAbove 𝓛 mode))
+abbrev pub never_clean : Monitor
+never_clean 𝓛 mode = exec (marking_by 𝓛 (stored_above 𝓛 mode))
 
 -- the rules keep secrets and end as published; of the pupils' monitors two leak, and the third does not end as published
 pub record PupilsCaught : Type 0 where
-  pub rules-keep : KeepsSecrets rules
-  pub rules-published : KeepsToRules rules
-  pub a-kept-leaks : KeepsSecrets aKept → ⊥
-  pub old-context-leaks : KeepsSecrets oldContextLater → ⊥
-  pub never-clean-unpublished : KeepsToRules neverClean → ⊥
+  pub rules_keep : KeepsSecrets rules
+  pub rules_published : KeepsToRules rules
+  pub a_kept_leaks : KeepsSecrets a_kept → ⊥
+  pub old_context_leaks : KeepsSecrets old_context_later → ⊥
+  pub never_clean_unpublished : KeepsToRules never_clean → ⊥

@@ -12,8 +12,8 @@ use Rattle.rules.specs.Ends.{done}
 use Rattle.rules.specs.Rules.{exec}
 use Rattle.store.specs.Marks.{Mark, Mode}
 use Rattle.rules.specs.LevelMarks.{marking}
-use Rattle.rules.specs.Agreement.{Agree, shown, hidden, both-partial, first-partial, second-partial}
-use Rattle.secrecy.specs.Secrecy.{HalfClosed, half-closed}
+use Rattle.rules.specs.Agreement.{Agree, shown, hidden, both_partial, first_partial, second_partial}
+use Rattle.secrecy.specs.Secrecy.{HalfClosed, half_closed}
 use Rattle.rules.proofs.SafeMarks.{agree_refl, noninterference}
 use Rattle.rules.proofs.Within.{done-once}
 
@@ -24,9 +24,9 @@ module _ (𝓛 : Lattice) (𝓘 : Laws 𝓛) (R : ℕ) where
   one_cell : {c d : Cell Mark} → 𝓛.le 𝓛.top R ≡ true → Agree 𝓛 R c d → (HalfClosed c → ⊥) → (HalfClosed d → ⊥) → c ≡ d
   one_cell highest (shown h) p q = refl
   one_cell highest (hidden {A} h k) p q = absurd (true≢false (sym (𝓘.le_trans (𝓘.top-greatest A) highest) ∙ h))
-  one_cell highest both-partial p q = absurd (p half-closed)
-  one_cell highest (first-partial h) p q = absurd (p half-closed)
-  one_cell highest (second-partial h) p q = absurd (q half-closed)
+  one_cell highest both_partial p q = absurd (p half_closed)
+  one_cell highest (first_partial h) p q = absurd (p half_closed)
+  one_cell highest (second_partial h) p q = absurd (q half_closed)
 
   pub agreeing : (mode : Mode) (c : Cmd) (context f g : ℕ) (σ τ : Store Mark) → ((i : ℕ) → Agree 𝓛 R (σ i) (τ i))
       → (𝓛.le 𝓛.top R ≡ false) ⊎ (Whole σ × Whole τ)

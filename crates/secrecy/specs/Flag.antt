@@ -23,8 +23,8 @@ opening =
     ++ (244 ∷ 1 ∷ 0 ∷ 0 ∷ [])  -- constant 2: 500
 
 -- and their first nodes
-abbrev firstNodes : List ℕ
-firstNodes =
+abbrev first_nodes : List ℕ
+first_nodes =
     node 0 0 0 0 0  -- 0: 0
     ++ node 6 0 0 0 0  -- 1: flag := 0
     ++ node 0 0 0 0 0  -- 2: 0
@@ -38,11 +38,11 @@ firstNodes =
     ++ node 8 0 6 8 9  -- 10: if cost < 500 then flag := 1 else skip
     ++ node 1 0 0 0 0  -- 11: flag
 
-unfoldable pub flagSheet : List ℕ
-flagSheet =
+unfoldable pub flag_sheet : List ℕ
+flag_sheet =
     opening
     ++ (21 ∷ 0 ∷ [])  -- 21 nodes
-    ++ firstNodes
+    ++ first_nodes
     ++ node 0 0 0 0 0  -- 12: 0
     ++ node 2 5 11 12 0  -- 13: flag = 0
     ++ node 0 0 1 0 0  -- 14: 1
@@ -54,11 +54,11 @@ flagSheet =
     ++ node 7 0 1 19 0  -- 20: node 1, then node 19
 
 -- with seal(flag) = 0 in the last test
-unfoldable pub sealedSheet : List ℕ
-sealedSheet =
+unfoldable pub sealed_sheet : List ℕ
+sealed_sheet =
     opening
     ++ (22 ∷ 0 ∷ [])  -- 22 nodes
-    ++ firstNodes
+    ++ first_nodes
     ++ node 4 0 11 0 0  -- 12: seal(flag)
     ++ node 0 0 0 0 0  -- 13: 0
     ++ node 2 5 12 13 0  -- 14: seal(flag) = 0
@@ -75,5 +75,5 @@ abbrev pub entry : Mark → ℕ → List ℕ
 entry m n = entry_of (cell (record { n = pos n }) m)
 
 -- Cost at level 1, others 0; all are whole, and flag and q hold 0.
-unfoldable pub storeAt : ℕ → List ℕ
-storeAt cost = (3 ∷ 0 ∷ []) ++ entry (whole 0) 0 ++ entry (whole 0) 0 ++ entry (whole 1) cost
+unfoldable pub store_at : ℕ → List ℕ
+store_at cost = (3 ∷ 0 ∷ []) ++ entry (whole 0) 0 ++ entry (whole 0) 0 ++ entry (whole 1) cost

@@ -4,17 +4,17 @@ use Rattle.std.specs.Prelude.{ℕ, ◌<◌, ◌≡◌, List, ◌⊎◌, ◌≢�
 use Rattle.basis.specs.Numbers as numbers
 use Rattle.basis.specs.Bytes.{word_at}
 use Rattle.value.specs.declared.Value.{Value}
-use Rattle.levels.specs.Levels.{count, highestOf}
+use Rattle.levels.specs.Levels.{count, highest_of}
 use Rattle.levels.specs.Lattice.{lattice}
-use Rattle.sections.specs.Sections.{levelsOf}
-use Rattle.sheet.specs.Load.{fieldCount}
+use Rattle.sections.specs.Sections.{levels_of}
+use Rattle.sheet.specs.Load.{field_count}
 use Rattle.store.specs.Cells.{Cell, cell}
 use Rattle.store.specs.Marks.{Mark, partial}
-use Rattle.store.specs.Stores.{store_of, storeLength}
+use Rattle.store.specs.Stores.{store_of, store_length}
 use Rattle.rules.specs.Agreement.{StoresAgree}
-use Rattle.handout.specs.Answers.{answerLength}
+use Rattle.handout.specs.Answers.{answer_length}
 use Rattle.basis.specs.Answer.{Outcome}
-use Rattle.beltuqash.specs.Calls.{run, handOut}
+use Rattle.beltuqash.specs.Calls.{run, hand_out}
 
 -- a call of run, but for the sheet and the mode
 pub record Call : Type 0 where
@@ -25,14 +25,14 @@ pub record Call : Type 0 where
 module _ (sheet : List ℕ) where
   -- a reader stands at a level of the sheet
   abbrev pub Reader : ℕ → Type 0
-  Reader R = R < count (levelsOf sheet)
+  Reader R = R < count (levels_of sheet)
 
   abbrev pub BelowHighest : ℕ → Type 0
-  BelowHighest R = R ≢ highestOf (levelsOf sheet)
+  BelowHighest R = R ≢ highest_of (levels_of sheet)
 
   -- two stores agree for him, by the sheet's levels
   abbrev pub AgreeFor : ℕ → List ℕ → List ℕ → Type 0
-  AgreeFor R s t = StoresAgree (lattice (levelsOf sheet)) R s t
+  AgreeFor R s t = StoresAgree (lattice (levels_of sheet)) R s t
 
   module _ (mode : ℕ) (c : Call) where
     abbrev pub outcome : Outcome
@@ -43,24 +43,24 @@ module _ (sheet : List ℕ) where
     Finishes = outcome.answer.number ≡ numbers.done
 
     -- success writes exactly the store, at the front of the lent output
-    abbrev pub finalStore : List ℕ
-    finalStore = take (storeLength (fieldCount sheet)) outcome.out
+    abbrev pub final_store : List ℕ
+    final_store = take (store_length (field_count sheet)) outcome.out
 
   -- a request of the reader's on a store, with a lent output
   module _ (R : ℕ) (request store lent : List ℕ) where
     abbrev pub reply : Outcome
-    reply = handOut sheet store R request lent
+    reply = hand_out sheet store R request lent
 
     abbrev pub Answers : Type 0
     Answers = reply.answer.number ≡ numbers.done
 
     -- success writes exactly the answer, at the front of the lent output
-    abbrev pub answerWritten : List ℕ
-    answerWritten = take (answerLength request) reply.out
+    abbrev pub answer_written : List ℕ
+    answer_written = take (answer_length request) reply.out
 
 -- a half-closed field is partial
 pub data HalfClosed : Cell Mark → Type 0 where
-  half-closed : {v : Value} {A : ℕ} → HalfClosed (cell v (partial A))
+  half_closed : {v : Value} {A : ℕ} → HalfClosed (cell v (partial A))
 
 -- no field of the store is; a store begins with its count
 abbrev pub NoneHalfClosed : List ℕ → Type 0
@@ -79,7 +79,7 @@ abbrev pub FinalStoresAgree : Type 0
 FinalStoresAgree =
     (sheet : List ℕ) (mode : ℕ) (first second : Call) (R : ℕ)
     → TwoRuns sheet mode first second R
-    → AgreeFor sheet R (finalStore sheet mode first) (finalStore sheet mode second)
+    → AgreeFor sheet R (final_store sheet mode first) (final_store sheet mode second)
 
 -- and one request of his that both answer gets the same bytes.
 abbrev pub AnswersSame : Type 0
@@ -87,8 +87,8 @@ AnswersSame =
     (sheet : List ℕ) (mode : ℕ) (first second : Call) (R : ℕ)
     → TwoRuns sheet mode first second R
     → (request lent₁ lent₂ : List ℕ)
-    → Answers sheet R request (finalStore sheet mode first) lent₁ × Answers sheet R request (finalStore sheet mode second) lent₂
-    → answerWritten sheet R request (finalStore sheet mode first) lent₁ ≡ answerWritten sheet R request (finalStore sheet mode second) lent₂
+    → Answers sheet R request (final_store sheet mode first) lent₁ × Answers sheet R request (final_store sheet mode second) lent₂
+    → answer_written sheet R request (final_store sheet mode first) lent₁ ≡ answer_written sheet R request (final_store sheet mode second) lent₂
 
 -- A run that strict mode finishes, permissive mode finishes with the same store and units.
 abbrev pub StrictInsidePermissive : Type 0

@@ -23,43 +23,43 @@ use denote.Ref.{Bor, MutBor}
 use denote.Slice.{shr_slice_vals, mut_slice_vals}
 use denote.Triple.Statement.{Triple}
 use denote.Triple.Clauses.{Lasts}
-use Rattle.sections.specs.Sections.{entriesOf}
+use Rattle.sections.specs.Sections.{entries_of}
 use Rattle.sections.specs.Inside.Reader.{rest_of, at_start}
 use Rattle.sections.specs.declared.reader.SectionReader.{SectionReader}
-use Rattle.sections.proofs.Steps.{Machine, machine, token, Stated, Met, Walk, clause, entry, proves, begins, hands, Homes, rooms, envAt, Contents, cells}
-use Rattle.sections.proofs.Readers.{sheet-val, sheet-mir, sheet-tells, sliced, Reader, covers}
-use Rattle.sections.proofs.Calls.{Start, Entries, Kept, Cell, Room, Filled, opens, starts, covered, start-met}
+use Rattle.sections.proofs.Steps.{Machine, machine, token, Stated, Met, Walk, clause, entry, proves, begins, hands, Homes, rooms, env_at, Contents, cells}
+use Rattle.sections.proofs.Readers.{sheet_val, sheet_mir, sheet_tells, sliced, Reader, covers}
+use Rattle.sections.proofs.Calls.{Start, Entries, Kept, Cell, Room, Filled, opens, starts, covered, start_met}
 use Rattle.sections.proofs.reader.SectionReader.TheLaws as T'
 use Rattle.sections.proofs.reader.start.Symbol as start-def
 use Rattle.sections.proofs.reader.entries.Symbol as entries-def
 use Rattle.sections.specs.contracts.levels as levels
 
 abbrev locals : List Local → List Local
-locals ls = local sheet-mir value_local ∷ local sheet-mir value_local ∷ ls
+locals ls = local sheet_mir value_local ∷ local sheet_mir value_local ∷ ls
 
 abbrev pub handing : List Local → ℕ → Body → Fn
 handing ls j rest = record { lifetimes = 1; outlives = []; params = 1; locals = locals ls; body = seq (call start-def.name (copy (place 1 []) ∷ []) (place j [])) rest }
 
 module _ {M : Type 1} (𝓤 : Ura M) (H : Heap 𝓤) (𝓦 : Machine {𝓤 = 𝓤} _) (clauses : Stated 𝓤 levels.ended) (κ : Lft) (q : Share) (s : Bor (List ℕ)) (g : (clauses 𝓦 𝓦.mem 𝓦.run (κ, tt) (s, tt)).ghost) where
   abbrev passed : (Met 𝓤 H 𝓦 levels.ended clauses).Ghost
-  passed = (((κ, tt), (q, tt), tt, (s, tt), (sheet-val s ∷ [], tt)), g)
+  passed = (((κ, tt), (q, tt), tt, (s, tt), (sheet_val s ∷ [], tt)), g)
 
   -- what is had and what is left to run: the sheet r covers, the token, the locals Γ
   abbrev Left : Bor (List ℕ) → List (Item 𝓤) → Env 𝓤 H → Body → Type 1
   Left r Γ E rest = Sq 𝓦.W (‵ (covers κ r) ∷ raw (token 𝓤 H 𝓦 κ q) ∷ Γ) (runs 𝓦.C 𝓦.Λ E rest (at_ret E ((Met 𝓤 H 𝓦 levels.ended clauses).post passed)))
 
-  pub hands_on : Entries 𝓤 H 𝓦 → {r : SectionReader} {u : Val} → Kept (Reader (κ, tt)) r u → {size : ℕ} → Holds (ltb size (2 ^ 8)) → {Γ : List (Item 𝓤)} {b i : ℕ} {F : Env 𝓤 H} → Cell 𝓤 H 𝓦 Γ ((sheet-mir, b) ∷ F) i u
-      → ((part : MutBor (List ℕ)) (ws : Lasts levels.ended (κ, tt) (s, tt)) → clause 𝓤 H 𝓦 levels.ended clauses passed part ws ≡ fact 𝓤 (part.now ≡ entriesOf size (rest_of r))) → (vs : Contents 𝓤 H F) → Γ ≡ ‵ (froom sheet-mir b zero) ∷ ‵ (fdies sheet-mir b) ∷ cells 𝓤 H F vs
-      → Left r.sheet Γ ((sheet-mir, b) ∷ F) (seq (call entries-def.name (copy (place i []) ∷ int w8 size ∷ []) (place 0 [])) return)
+  pub hands_on : Entries 𝓤 H 𝓦 → {r : SectionReader} {u : Val} → Kept (Reader (κ, tt)) r u → {size : ℕ} → Holds (ltb size (2 ^ 8)) → {Γ : List (Item 𝓤)} {b i : ℕ} {F : Env 𝓤 H} → Cell 𝓤 H 𝓦 Γ ((sheet_mir, b) ∷ F) i u
+      → ((part : MutBor (List ℕ)) (ws : Lasts levels.ended (κ, tt) (s, tt)) → clause 𝓤 H 𝓦 levels.ended clauses passed part ws ≡ fact 𝓤 (part.now ≡ entries_of size (rest_of r))) → (vs : Contents 𝓤 H F) → Γ ≡ ‵ (froom sheet_mir b zero) ∷ ‵ (fdies sheet_mir b) ∷ cells 𝓤 H F vs
+      → Left r.sheet Γ ((sheet_mir, b) ∷ F) (seq (call entries-def.name (copy (place i []) ∷ int w8 size ∷ []) (place 0 [])) return)
   hands_on known kept fits cell says vs e =
       covered 𝓦 κ q ! known kept fits cell (λ part v is has. hands 𝓦 levels.ended clauses ! passed _ refl (says part _) is (sliced 𝓦.W κ part v has) vs e)
 
   module _ (ls : List Local) (j : ℕ) (bs : Homes (locals ls)) where
     abbrev E : Env 𝓤 H
-    E = envAt 𝓤 H (locals ls) bs
+    E = env_at 𝓤 H (locals ls) bs
 
     abbrev Γ : List (Item 𝓤)
-    Γ = ‵ (froom sheet-mir bs.0 zero) ∷ ‵ (fdies sheet-mir bs.0) ∷ ‵ (fat full_share sheet-mir bs.1.0 zero (sheet-val s)) ∷ ‵ (fdies sheet-mir bs.1.0) ∷ rooms 𝓤 ls bs.1.1
+    Γ = ‵ (froom sheet_mir bs.0 zero) ∷ ‵ (fdies sheet_mir bs.0) ∷ ‵ (fat full_share sheet_mir bs.1.0 zero (sheet_val s)) ∷ ‵ (fdies sheet_mir bs.1.0) ∷ rooms 𝓤 ls bs.1.1
 
     -- local j is room for the reader; and what comes then, with the reader in it
     abbrev pub Waits : Type 2
@@ -85,7 +85,7 @@ module _ {M : Type 1} {𝓤 : Ura M} (𝓛 : Logic 𝓤) (𝓜 : Model 𝓤 𝓛
   abbrev 𝓦 : Machine 𝓛
   𝓦 = machine 𝓛 𝓜 𝓡 γ
 
-  pub handing-met : (clauses : Stated 𝓤 levels.ended) (k : Name) (ls : List Local) (j : ℕ) (rest : Body) → Closed 𝓤 H 𝓦.C 𝓦.Λ k (handing ls j rest) → γ start-def.name ≡ start-def.routine → Waiting 𝓤 H 𝓦 clauses ls j rest → Going 𝓤 H 𝓦 clauses ls j rest
+  pub handing_met : (clauses : Stated 𝓤 levels.ended) (k : Name) (ls : List Local) (j : ℕ) (rest : Body) → Closed 𝓤 H 𝓦.C 𝓦.Λ k (handing ls j rest) → γ start-def.name ≡ start-def.routine → Waiting 𝓤 H 𝓦 clauses ls j rest → Going 𝓤 H 𝓦 clauses ls j rest
       → Triple 𝓤 (𝓦.C k) (Met 𝓤 H 𝓦 levels.ended clauses)
-  handing-met clauses k ls j rest closed known waits goes =
-      proves 𝓛 𝓜 𝓡 γ levels.ended clauses k (handing ls j rest) closed (λ κs. (mut_slice_vals, tt)) (λ κs. (sheet-tells κs.0, tt)) (walk 𝓤 H 𝓦 clauses ls j rest (start-met 𝓛 𝓜 𝓡 γ known) waits goes)
+  handing_met clauses k ls j rest closed known waits goes =
+      proves 𝓛 𝓜 𝓡 γ levels.ended clauses k (handing ls j rest) closed (λ κs. (mut_slice_vals, tt)) (λ κs. (sheet_tells κs.0, tt)) (walk 𝓤 H 𝓦 clauses ls j rest (start_met 𝓛 𝓜 𝓡 γ known) waits goes)

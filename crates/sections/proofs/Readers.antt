@@ -44,29 +44,29 @@ use Rattle.sections.proofs.verdict.Verdict.TheLaws as Vd'
 use Rattle.sections.specs.contracts.reader.SectionReader as T
 use Rattle.sections.proofs.reader.SectionReader.TheLaws as T'
 
-abbrev pub sheet-val : Bor (List ℕ) → Val
-sheet-val s = slice_val s.ref_ptr (length s.now)
+abbrev pub sheet_val : Bor (List ℕ) → Val
+sheet_val s = slice_val s.ref_ptr (length s.now)
 
-abbrev pub sheet-mir : Ty
-sheet-mir = slice_ty (ty_ref (named 0) imm (ty_int w8))
+abbrev pub sheet_mir : Ty
+sheet_mir = slice_ty (ty_ref (named 0) imm (ty_int w8))
 
-pub sheet-tells : (κ : Lft) → Tells (ShrSlice (named 0) κ u8) (Is (ShrSlice (named 0) κ u8)) shr_slice_vals
-sheet-tells κ = shr_slice_Tells (named 0) κ u8
+pub sheet_tells : (κ : Lft) → Tells (ShrSlice (named 0) κ u8) (Is (ShrSlice (named 0) κ u8)) shr_slice_vals
+sheet_tells κ = shr_slice_Tells (named 0) κ u8
 
 abbrev pub Reader : Lfts 1 → RattleType
 Reader κs = T.the_row (named_lft 1 0 tt κs)
 
-abbrev pub reader-vals : (κs : Lfts 1) → SectionReader → List Val
-reader-vals κs = LL.vals (T.the_type (named_lft 1 0 tt κs)) (T'.the_laws (named_lft 1 0 tt κs))
+abbrev pub reader_vals : (κs : Lfts 1) → SectionReader → List Val
+reader_vals κs = LL.vals (T.the_type (named_lft 1 0 tt κs)) (T'.the_laws (named_lft 1 0 tt κs))
 
-pub reader-tells : (κs : Lfts 1) → Tells (Reader κs) (Is (Reader κs)) (reader-vals κs)
+pub reader-tells : (κs : Lfts 1) → Tells (Reader κs) (Is (Reader κs)) (reader_vals κs)
 reader-tells κs = LL.tells (T.the_type (named_lft 1 0 tt κs)) (T'.the_laws (named_lft 1 0 tt κs))
 
 abbrev pub reads : Lft → SectionReader → Val → Fml
 reads κ d u = (Reader (κ, tt)).own_val d (u ∷ [])
 
 abbrev pub covers : Lft → Bor (List ℕ) → Fml
-covers κ s = (ShrSlice (named 0) κ u8).own_val s (sheet-val s ∷ [])
+covers κ s = (ShrSlice (named 0) κ u8).own_val s (sheet_val s ∷ [])
 
 module _ {M : Type 1} {𝓤 : Ura M} (𝓛 : Logic 𝓤) (κ : Lft) where
   -- the type's lifetime, and its description and laws there
@@ -76,15 +76,15 @@ module _ {M : Type 1} {𝓤 : Ura M} (𝓛 : Logic 𝓤) (κ : Lft) where
   pub typed : (ℓ : Lifetime) (d : SectionReader) (u : Val) → Is (Reader (κ, tt)) d (u ∷ []) → Holds (has_ty (T'.mir ℓ) u) × WT u
   typed ℓ d u is = ((LL.lawful (T.the_type (record { mir = ℓ; lft = κ })) (T'.the_laws (record { mir = ℓ; lft = κ })) 𝓛).typed d _ is).0
 
-  pub covers-twice : (s : Bor (List ℕ)) → ent 𝓤 (sem 𝓛 (covers κ s)) (sep 𝓤 (sem 𝓛 (covers κ s)) (sem 𝓛 (covers κ s)))
-  covers-twice s = (shr_slice_copy 𝓛 (named 0) κ u8).twice s (sheet-val s ∷ [])
+  pub covers_twice : (s : Bor (List ℕ)) → ent 𝓤 (sem 𝓛 (covers κ s)) (sep 𝓤 (sem 𝓛 (covers κ s)) (sem 𝓛 (covers κ s)))
+  covers_twice s = (shr_slice_copy 𝓛 (named 0) κ u8).twice s (sheet_val s ∷ [])
 
   apart : (P : SProp 𝓤) (d : SectionReader) (N : Fml) → ent 𝓤 (sep 𝓤 P (sem 𝓛 (fsep (reads κ d (T'.lowered d)) N)))
       (sep 𝓤 (sep 𝓤 (sep 𝓤 P (sem 𝓛 (fsep (covers κ d.sheet) (fsep (usize.own_val d.at (vint w64 d.at ∷ [])) N)))) (emp 𝓤)) (sem 𝓛 (covers κ d.sheet)))
   apart P d N =
       qed 𝓛 (raw P ∷ ‵ (fsep (reads κ d (T'.lowered d)) N) ∷ []) ∵ move ! (1 ∷ []) $ fsplit ! $
       use1 𝓛 (given (T'.lowered d ∷ [] ≡ T'.lowered d ∷ []) (‵ (all_own (T.the_type α).parts (T'.the_laws α) (d.sheet, (d.at, tt))))) (own_open 𝓛 (T.the_type α) (T'.the_laws α) (d.sheet, (d.at, tt)) (T'.lowered d)) $ learn ! (λ _.
-      fsplit ! $ use1 𝓛 (‵ (covers κ d.sheet) ⊛ ‵ (covers κ d.sheet)) (covers-twice d.sheet) $ split ! $
+      fsplit ! $ use1 𝓛 (‵ (covers κ d.sheet) ⊛ ‵ (covers κ d.sheet)) (covers_twice d.sheet) $ split ! $
       -- [the sheet; the sheet; the offset; N; P]
       move ! (2 ∷ []) $ fsplit ! $ move ! (0 ∷ 4 ∷ []) $ fjoin ! $ move ! (2 ∷ 0 ∷ []) $ fjoin ! $ move ! (3 ∷ 0 ∷ []) $ join ! $ move ! (0 ∷ 1 ∷ []) $ join ! $ frame ! $ keep ! (0 ∷ []) $ done !)
 
@@ -97,10 +97,10 @@ module _ {M : Type 1} {𝓤 : Ura M} (𝓛 : Logic 𝓤) (κ : Lft) where
   anew d u is =
       let e : u ∷ [] ≡ T'.lowered d ∷ [] = reader-tells (κ, tt) d (u ∷ []) is in
       subst (λ (us : List Val). ent 𝓤 (sem 𝓛 (covers κ d.sheet)) (sep 𝓤 (sem 𝓛 ((Reader (κ, tt)).own_val d us)) (sem 𝓛 (covers κ d.sheet)))) (sym e)
-      (via 𝓤 (sep 𝓤 (sem 𝓛 (covers κ d.sheet)) (sem 𝓛 (covers κ d.sheet))) (covers-twice d.sheet) (mono_l 𝓤 (sem 𝓛 (covers κ d.sheet)) (made d (typed (named 0) d (T'.lowered d) (subst (Is (Reader (κ, tt)) d) e is)).1.1.0.fits)))
+      (via 𝓤 (sep 𝓤 (sem 𝓛 (covers κ d.sheet)) (sem 𝓛 (covers κ d.sheet))) (covers_twice d.sheet) (mono_l 𝓤 (sem 𝓛 (covers κ d.sheet)) (made d (typed (named 0) d (T'.lowered d) (subst (Is (Reader (κ, tt)) d) e is)).1.1.0.fits)))
 
 module _ {M : Type 1} {𝓤 : Ura M} (𝓛 : Logic 𝓤) where
-  pub sliced : (κ : Lft) (s : Bor (List ℕ)) (u : Val) → Is (ShrSlice (named 0) κ u8) s (u ∷ []) → Holds (has_ty sheet-mir u) × WT u
+  pub sliced : (κ : Lft) (s : Bor (List ℕ)) (u : Val) → Is (ShrSlice (named 0) κ u8) s (u ∷ []) → Holds (has_ty sheet_mir u) × WT u
   sliced κ s u is = ((shr_slice_Lawful 𝓛 (named 0) κ u8).typed s _ is).0
 
   pub judged : (v : Verdict) (u : Val) → Is Vd.the_row v (u ∷ []) → Holds (has_ty Vd'.mir u) × WT u
@@ -108,7 +108,7 @@ module _ {M : Type 1} {𝓤 : Ura M} (𝓛 : Logic 𝓤) where
 
 module _ {M : Type 1} {𝓤 : Ura M} {H : Heap 𝓤} {K : Type 0} {Γ : List (Item 𝓤)} {e : Ty × ℕ} {b : ℕ} {E : Env 𝓤 H} {p : Post 𝓤 H} {rest : Body} (𝓦 : Machine {𝓤 = 𝓤} _) (κ : Lft) (q : Share) where
   pub parts : K → (d : SectionReader) (N : Fml) → Holds (has_ty (T'.mir (named 0)) (T'.lowered d)) × WT (T'.lowered d) → {i j b₁ o₁ b₂ o₂ : ℕ} → let E' : Env 𝓤 H = e ∷ (T'.mir (named 0), b) ∷ E in
-      let τ : Ty = slice_ty (ty_ref erased imm (ty_int w8)) in let Γ' : List (Item 𝓤) = put 𝓦 (2 * i) (‵ (fat full_share τ b₁ o₁ (sheet-val d.sheet))) Γ in
+      let τ : Ty = slice_ty (ty_ref erased imm (ty_int w8)) in let Γ' : List (Item 𝓤) = put 𝓦 (2 * i) (‵ (fat full_share τ b₁ o₁ (sheet_val d.sheet))) Γ in
       nth 𝓦 2 Γ ≡ ‵ (fat full_share (T'.mir (named 0)) b zero (T'.lowered d)) → spot_of 𝓤 H E' i ≡ (τ, b₁, o₁) → nth 𝓦 (2 * i) Γ ≡ ‵ (froom τ b₁ o₁)
       → nth 𝓦 2 Γ' ≡ ‵ (fat full_share (T'.mir (named 0)) b zero (T'.lowered d)) → spot_of 𝓤 H E' j ≡ (ty_int w64, b₂, o₂) → nth 𝓦 (2 * j) Γ' ≡ ‵ (froom (ty_int w64) b₂ o₂)
       → Step K 𝓦.W (raw (sep 𝓤 (sep 𝓤 (token 𝓤 H 𝓦 κ q) (meaning 𝓦 (fsep (covers κ d.sheet) (fsep (usize.own_val d.at (vint w64 d.at ∷ [])) N)))) (emp 𝓤)) ∷ ‵ (covers κ d.sheet) ∷ put 𝓦 (2 * j) (‵ (fat full_share (ty_int w64) b₂ o₂ (vint w64 d.at))) Γ') (runs 𝓦.C 𝓦.Λ E' rest p)

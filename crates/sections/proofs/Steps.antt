@@ -1,5 +1,5 @@
 -- Walks by hand: what is the same for each function of one lifetime or none whose contract asks nothing and speaks of its result alone.
--- The locals stand in their order, each with what frees it: where m entries are in front, local i is entry m + 2 * i (`nthLocal`).
+-- The locals stand in their order, each with what frees it: where m entries are in front, local i is entry m + 2 * i (`nth_local`).
 --     Machine, machine     what a walk is given: the laws, and the tables of calls and loops; and what they are in a function's theorem
 --     Stated, Met, Walk    a function's clauses; its contract; its walk, at machine values that are written out
 --     proves, knows        the function's theorem, of its walk; a callee's theorem, as a walk cites it
@@ -154,9 +154,9 @@ rooms 𝓤 [] bs = []
 rooms 𝓤 (local τ h ∷ ls) bs = ‵ (froom τ bs.0 zero) ∷ ‵ (fdies τ bs.0) ∷ rooms 𝓤 ls bs.1
 
 module _ {M : Type 1} (𝓤 : Ura M) (H : Heap 𝓤) where
-  abbrev pub envAt : (ls : List Local) → Homes ls → Env 𝓤 H
-  envAt [] bs = []
-  envAt (local τ h ∷ ls) bs = (τ, bs.0) ∷ envAt ls bs.1
+  abbrev pub env_at : (ls : List Local) → Homes ls → Env 𝓤 H
+  env_at [] bs = []
+  env_at (local τ h ∷ ls) bs = (τ, bs.0) ∷ env_at ls bs.1
 
   abbrev pub Contents : Env 𝓤 H → Type 0
   Contents [] = Unit {0}
@@ -166,9 +166,9 @@ module _ {M : Type 1} (𝓤 : Ura M) (H : Heap 𝓤) where
   cells [] vs = []
   cells ((τ, b) ∷ E) vs = ‵ (fat full_share τ b zero vs.0) ∷ ‵ (fdies τ b) ∷ cells E vs.1
 
-abbrev pub nthLocal : ℕ → ℕ → ℕ
-nthLocal zero i = 2 * i
-nthLocal (suc m) i = suc (nthLocal m i)
+abbrev pub nth_local : ℕ → ℕ → ℕ
+nth_local zero i = 2 * i
+nth_local (suc m) i = suc (nth_local m i)
 
 abbrev front : {M : Type 1} {𝓤 : Ura M} → ℕ → List (Item 𝓤) → List (Item 𝓤)
 front zero Γ = []
@@ -200,12 +200,12 @@ module _ {M : Type 1} {𝓤 : Ura M} (𝓛 : Logic 𝓤) where
 module _ {M : Type 1} {𝓤 : Ura M} {𝓛 : Logic 𝓤} {K : Type 0} where
   open 𝓛 use {H}
 
-  allocates : {Γ : List (Item 𝓤)} → K → (ls : List Local) {Kt : Env 𝓤 H → Goal 𝓤 H} → ((bs : Homes ls) → Seq K 𝓛 (Γ ++ rooms 𝓤 ls bs) (Kt (envAt 𝓤 H ls bs))) → Seq K 𝓛 Γ (allocs ls Kt)
+  allocates : {Γ : List (Item 𝓤)} → K → (ls : List Local) {Kt : Env 𝓤 H → Goal 𝓤 H} → ((bs : Homes ls) → Seq K 𝓛 (Γ ++ rooms 𝓤 ls bs) (Kt (env_at 𝓤 H ls bs))) → Seq K 𝓛 Γ (allocs ls Kt)
   allocates {Γ} t [] {Kt} k = alloc0 t $ subst (λ (Δ : List (Item 𝓤)). Seq K 𝓛 Δ (Kt [])) (append-nil Γ) (k tt)
   allocates {Γ} t (local τ h ∷ ls) k = alloc1 t (λ b. allocates t ls (λ bs. by t (via 𝓤 _ (behind 𝓛 (‵ (froom τ b zero)) (‵ (fdies τ b)) Γ (rooms 𝓤 ls bs)) (k (b, bs)).prf)))
 
   module _ {Γ : List (Item 𝓤)} where
-    pub begins : K → (C : Calls 𝓤 H) (Λ : Loops 𝓤 H) (f : Fn) (vs : List Val) (Kf : Val → SProp 𝓤) → ((bs : Homes f.locals) → Seq K 𝓛 (Γ ++ rooms 𝓤 f.locals bs) (params' (envAt 𝓤 H f.locals bs) vs (runs C Λ (envAt 𝓤 H f.locals bs) f.body (at_ret (envAt 𝓤 H f.locals bs) Kf))))
+    pub begins : K → (C : Calls 𝓤 H) (Λ : Loops 𝓤 H) (f : Fn) (vs : List Val) (Kf : Val → SProp 𝓤) → ((bs : Homes f.locals) → Seq K 𝓛 (Γ ++ rooms 𝓤 f.locals bs) (params' (env_at 𝓤 H f.locals bs) vs (runs C Λ (env_at 𝓤 H f.locals bs) f.body (at_ret (env_at 𝓤 H f.locals bs) Kf))))
         → Seq K 𝓛 Γ (prop (WpFn 𝓤 H C Λ f vs Kf))
     begins t C Λ f vs Kf k = enter t C Λ f vs Kf $ allocates t f.locals k
 
@@ -219,26 +219,26 @@ module _ {M : Type 1} {𝓤 : Ura M} {𝓛 : Logic 𝓤} {K : Type 0} where
             (via 𝓤 (sep 𝓤 (⋆ 𝓛 (cells 𝓤 H E vs)) (aim 𝓤 H G)) (mono_r 𝓤 (⋆ 𝓛 (cells 𝓤 H E vs)) s.prf) (released 𝓛 E vs (aim 𝓤 H G)))));
       })
 
-      pub takes : K → (m : ℕ) {i : ℕ} {q : Share} {v : Val} → nth 𝓛 (nthLocal m i) Γ ≡ ‵ (fat q (spot_of 𝓤 H E i).0 (spot_of 𝓤 H E i).1 (spot_of 𝓤 H E i).2 v) → Opd K 𝓛 Γ E (copy (place i [])) v
-      takes t m {i} e = load t (from t (stop t)) (look t (nthLocal m i) e)
+      pub takes : K → (m : ℕ) {i : ℕ} {q : Share} {v : Val} → nth 𝓛 (nth_local m i) Γ ≡ ‵ (fat q (spot_of 𝓤 H E i).0 (spot_of 𝓤 H E i).1 (spot_of 𝓤 H E i).2 v) → Opd K 𝓛 Γ E (copy (place i [])) v
+      takes t m {i} e = load t (from t (stop t)) (look t (nth_local m i) e)
 
-      pub takes_field : K → (m : ℕ) {i k : ℕ} {q : Share} {ν : Sym} {τs : Tys} {us : Vals} {τ : Ty} {o : ℕ} → nth 𝓛 (nthLocal m i) Γ ≡ ‵ (fat q (ty_struct ν τs) (spot_of 𝓤 H E i).1 (spot_of 𝓤 H E i).2 (vstruct us))
+      pub takes_field : K → (m : ℕ) {i k : ℕ} {q : Share} {ν : Sym} {τs : Tys} {us : Vals} {τ : Ty} {o : ℕ} → nth 𝓛 (nth_local m i) Γ ≡ ‵ (fat q (ty_struct ν τs) (spot_of 𝓤 H E i).1 (spot_of 𝓤 H E i).2 (vstruct us))
           → (spot_of 𝓤 H E i).0 ≡ ty_struct ν τs → field_at zero τs k ≡ present (τ, o) → Opd K 𝓛 Γ E (copy (place i (field k ∷ []))) (get_v us k)
       takes_field t m {i} {k} {q} {ν} {τs} {us} {τ} {o} e struct there =
           load t (from t (fld t (ap (λ (σ : Ty). field_of σ k) struct ∙ there) (stop t)))
-          (look_in t (nthLocal m i) (subst (λ (j : Item 𝓤). Part K 𝓛 j q τ (spot_of 𝓤 H E i).1 ((spot_of 𝓤 H E i).2 + o) (get_v us k) (λ u. ‵ (fat q (ty_struct ν τs) (spot_of 𝓤 H E i).1 (spot_of 𝓤 H E i).2 (vstruct (set_v us k u))))) (sym e) (sub t k there (whole t))))
+          (look_in t (nth_local m i) (subst (λ (j : Item 𝓤). Part K 𝓛 j q τ (spot_of 𝓤 H E i).1 ((spot_of 𝓤 H E i).2 + o) (get_v us k) (λ u. ‵ (fat q (ty_struct ν τs) (spot_of 𝓤 H E i).1 (spot_of 𝓤 H E i).2 (vstruct (set_v us k u))))) (sym e) (sub t k there (whole t))))
 
-      pub big-lit : K → {w : Width} {n : ℕ} → Fits w n → Opd K 𝓛 Γ E (int_big w n) (vint w n)
-      big-lit t {w} {n} fits = record { go = λ Kt h. via 𝓤 (Kt (vint w n)) h (guard_i 𝓤 (Fits w n) (Kt (vint w n)) fits) }
+      pub big_lit : K → {w : Width} {n : ℕ} → Fits w n → Opd K 𝓛 Γ E (int_big w n) (vint w n)
+      big_lit t {w} {n} fits = record { go = λ Kt h. via 𝓤 (Kt (vint w n)) h (guard_i 𝓤 (Fits w n) (Kt (vint w n)) fits) }
 
       module _ {C : Calls 𝓤 H} {Λ : Loops 𝓤 H} {p : Post 𝓤 H} {rest : Body} where
-        pub stores : K → (m : ℕ) {j : ℕ} {τ : Ty} {b o : ℕ} {rv : RValue} {v : Val} → Rv K 𝓛 Γ E rv v → spot_of 𝓤 H E j ≡ (τ, b, o) → nth 𝓛 (nthLocal m j) Γ ≡ ‵ (froom τ b o) → Holds (has_ty τ v) × WT v
-            → Step K 𝓛 (put 𝓛 (nthLocal m j) (‵ (fat full_share τ b o v)) Γ) (runs C Λ E rest p) Γ (runs C Λ E (seq (assign (place j []) rv) rest) p)
-        stores t m {j} value here e wt = assigns t value (subst (Finds K 𝓛 Γ E (place j [])) here (from t (stop t))) (init t (nthLocal m j) e wt)
+        pub stores : K → (m : ℕ) {j : ℕ} {τ : Ty} {b o : ℕ} {rv : RValue} {v : Val} → Rv K 𝓛 Γ E rv v → spot_of 𝓤 H E j ≡ (τ, b, o) → nth 𝓛 (nth_local m j) Γ ≡ ‵ (froom τ b o) → Holds (has_ty τ v) × WT v
+            → Step K 𝓛 (put 𝓛 (nth_local m j) (‵ (fat full_share τ b o v)) Γ) (runs C Λ E rest p) Γ (runs C Λ E (seq (assign (place j []) rv) rest) p)
+        stores t m {j} value here e wt = assigns t value (subst (Finds K 𝓛 Γ E (place j [])) here (from t (stop t))) (init t (nth_local m j) e wt)
 
-        pub lands : K → (m : ℕ) {j : ℕ} {τ : Ty} {b o : ℕ} {v : Val} → spot_of 𝓤 H E j ≡ (τ, b, o) → nth 𝓛 (nthLocal m j) Γ ≡ ‵ (froom τ b o) → Holds (has_ty τ v) × WT v
-            → Step K 𝓛 (put 𝓛 (nthLocal m j) (‵ (fat full_share τ b o v)) Γ) (runs C Λ E rest p) Γ (landing C Λ E (place j []) v rest p)
-        lands t m {j} here e wt = land t (subst (Finds K 𝓛 Γ E (place j [])) here (from t (stop t))) (init t (nthLocal m j) e wt)
+        pub lands : K → (m : ℕ) {j : ℕ} {τ : Ty} {b o : ℕ} {v : Val} → spot_of 𝓤 H E j ≡ (τ, b, o) → nth 𝓛 (nth_local m j) Γ ≡ ‵ (froom τ b o) → Holds (has_ty τ v) × WT v
+            → Step K 𝓛 (put 𝓛 (nth_local m j) (‵ (fat full_share τ b o v)) Γ) (runs C Λ E rest p) Γ (landing C Λ E (place j []) v rest p)
+        lands t m {j} here e wt = land t (subst (Finds K 𝓛 Γ E (place j [])) here (from t (stop t))) (init t (nth_local m j) e wt)
 
 module _ {M : Type 1} {𝓤 : Ura M} {H : Heap 𝓤} {K : Type 0} (𝓦 : Machine {𝓤 = 𝓤} _) (T : Ended) (clauses : Stated 𝓤 T) where
   pub asks : K → {Γ : List (Item 𝓤)} {E : Env 𝓤 H} {p : Post 𝓤 H} {rest : Body} {f : Name} {xs : List Operand} {d : Place} → Triple 𝓤 (𝓦.C f) (Met 𝓤 H 𝓦 T clauses) → (y : (Met 𝓤 H 𝓦 T clauses).Ghost) (φ : Res T.signature y.0.0 → Type 0)

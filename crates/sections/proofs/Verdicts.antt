@@ -2,13 +2,13 @@
 use mathlib.Core.Path.{◌≡◌, refl, sym, ap, ◌∙◌}
 use mathlib.Core.Bool.{Bool, true, false, cond, ◌&&◌, true≢false}
 use Prim.Native.Nat.{ℕ, ◌<◌}
-use Rattle.sections.specs.Verdict.{verdictPlace, passesOf, ◌then◌, told}
+use Rattle.sections.specs.Verdict.{verdict_place, passes_of, ◌then◌, told}
 use Rattle.sections.specs.declared.verdict.Fault.TheVariants.{Unknown, Unused, Range, Sort}
 use Rattle.sections.specs.declared.verdict.Verdict.{Verdict}
 use Rattle.sections.specs.declared.verdict.Verdict.TheVariants.{Passes, Length, Count, Levels, Name, Node, Uses, Depth}
 
 -- only `Passes` has number 0
-pub passes-is : (v : Verdict) → passesOf v ≡ true → v ≡ Passes
+pub passes-is : (v : Verdict) → passes_of v ≡ true → v ≡ Passes
 passes-is Passes e = refl
 passes-is Length e = absurd (true≢false (sym e))
 passes-is Count e = absurd (true≢false (sym e))
@@ -26,46 +26,46 @@ module _ (v w : Verdict) where
   unfolding ◌then◌
   then_next e = rw e
 
-  pub then-first : passesOf v ≡ false → (v then w) ≡ v
+  pub then_first : passes_of v ≡ false → (v then w) ≡ v
   unfolding ◌then◌
-  then-first e = rw e
+  then_first e = rw e
 
-  pub both-pass : (v then w) ≡ Passes → (v ≡ Passes) × (w ≡ Passes)
+  pub both_pass : (v then w) ≡ Passes → (v ≡ Passes) × (w ≡ Passes)
   unfolding ◌then◌
-  both-pass e = go (passesOf v) refl e
+  both_pass e = go (passes_of v) refl e
     where
-      go : (b : Bool) → passesOf v ≡ b → cond b w v ≡ Passes → (v ≡ Passes) × (w ≡ Passes)
+      go : (b : Bool) → passes_of v ≡ b → cond b w v ≡ Passes → (v ≡ Passes) × (w ≡ Passes)
       go true p e = (passes-is v p, e)
-      go false p e = absurd (true≢false (sym (ap passesOf e) ∙ p))
+      go false p e = absurd (true≢false (sym (ap passes_of e) ∙ p))
 
 -- a check that passes
-pub told-right : (right : Bool) (v : Verdict) → passesOf v ≡ false → told right v ≡ Passes → right ≡ true
+pub told-right : (right : Bool) (v : Verdict) → passes_of v ≡ false → told right v ≡ Passes → right ≡ true
 told-right true v r e = refl
-told-right false v r e = absurd (true≢false (sym (ap passesOf e) ∙ r))
+told-right false v r e = absurd (true≢false (sym (ap passes_of e) ∙ r))
 
 -- checks in order pass where each does
-pub told-then : (right : Bool) (v w : Verdict) → passesOf v ≡ false → passesOf (told right v then w) ≡ (right && passesOf w)
+pub told_then : (right : Bool) (v w : Verdict) → passes_of v ≡ false → passes_of (told right v then w) ≡ (right && passes_of w)
 unfolding ◌then◌
-told-then true v w r = refl
-told-then false v w r = rw r r
+told_then true v w r = refl
+told_then false v w r = rw r r
 
-pub told-last : (right : Bool) (v : Verdict) → passesOf v ≡ false → passesOf (told right v) ≡ right
-told-last true v r = refl
-told-last false v r = r
+pub told_last : (right : Bool) (v : Verdict) → passes_of v ≡ false → passes_of (told right v) ≡ right
+told_last true v r = refl
+told_last false v r = r
 
 -- what is told has a place below a number, if each check has
 module _ (few : ℕ) where
   abbrev pub Placed : Verdict → Type 0
-  Placed v = verdictPlace v < few
+  Placed v = verdict_place v < few
 
   pub told-placed : (right : Bool) (v : Verdict) → 0 < few → Placed v → Placed (told right v)
   told-placed true v some h = some
   told-placed false v some h = h
 
-  pub then-placed : (v w : Verdict) → Placed v → (v ≡ Passes → Placed w) → Placed (v then w)
+  pub then_placed : (v w : Verdict) → Placed v → (v ≡ Passes → Placed w) → Placed (v then w)
   unfolding ◌then◌
-  then-placed v w h next = go (passesOf v) refl
+  then_placed v w h next = go (passes_of v) refl
     where
-      go : (b : Bool) → passesOf v ≡ b → Placed (cond b w v)
+      go : (b : Bool) → passes_of v ≡ b → Placed (cond b w v)
       go true p = next (passes-is v p)
       go false p = h

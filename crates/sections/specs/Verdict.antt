@@ -7,41 +7,41 @@ use Rattle.sections.specs.declared.verdict.Verdict.{Verdict}
 use Rattle.sections.specs.declared.verdict.Verdict.TheVariants.{Passes, Length, Count, Levels, Name, Node, Uses, Depth}
 
 -- what is wrong with a node
-abbrev pub faultNumber : Fault → ℕ
-faultNumber Unknown = numbers.nodeUnknown  -- unknown kind or operator
-faultNumber Unused = numbers.nodeUnused  -- an unused place, or the operator byte in a kind without one, not 0
-faultNumber Range = numbers.nodeRange  -- child or index number out of range or not lower
-faultNumber Sort = numbers.nodeSort  -- child of the wrong sort
+abbrev pub fault_number : Fault → ℕ
+fault_number Unknown = numbers.node_unknown  -- unknown kind or operator
+fault_number Unused = numbers.node_unused  -- an unused place, or the operator byte in a kind without one, not 0
+fault_number Range = numbers.node_range  -- child or index number out of range or not lower
+fault_number Sort = numbers.node_sort  -- child of the wrong sort
 
 -- success is number 0
-abbrev pub verdictNumber : Verdict → ℕ
-verdictNumber Passes = numbers.done
-verdictNumber Length = numbers.sheetLength  -- sheet ends too soon or has bytes left
-verdictNumber Count = numbers.countOutside  -- a count outside its limits
-verdictNumber Levels = numbers.levelsWrong  -- levels not as above
-verdictNumber Name = numbers.nameWrong  -- a bad or repeated name
-verdictNumber (Node fault n) = faultNumber fault
-verdictNumber Uses = numbers.notUsedOnce  -- a node not used once, or the last not a command
-verdictNumber Depth = numbers.tooDeep  -- depth over 64
+abbrev pub verdict_number : Verdict → ℕ
+verdict_number Passes = numbers.done
+verdict_number Length = numbers.sheet_length  -- sheet ends too soon or has bytes left
+verdict_number Count = numbers.count_outside  -- a count outside its limits
+verdict_number Levels = numbers.levels_wrong  -- levels not as above
+verdict_number Name = numbers.name_wrong  -- a bad or repeated name
+verdict_number (Node fault n) = fault_number fault
+verdict_number Uses = numbers.not_used_once  -- a node not used once, or the last not a command
+verdict_number Depth = numbers.too_deep  -- depth over 64
 
 -- the place of a node's fault is its number; all other refusals of a sheet have place 0
-abbrev pub verdictPlace : Verdict → ℕ
-verdictPlace Passes = 0
-verdictPlace Length = 0
-verdictPlace Count = 0
-verdictPlace Levels = 0
-verdictPlace Name = 0
-verdictPlace (Node fault n) = n
-verdictPlace Uses = 0
-verdictPlace Depth = 0
+abbrev pub verdict_place : Verdict → ℕ
+verdict_place Passes = 0
+verdict_place Length = 0
+verdict_place Count = 0
+verdict_place Levels = 0
+verdict_place Name = 0
+verdict_place (Node fault n) = n
+verdict_place Uses = 0
+verdict_place Depth = 0
 
-abbrev pub passesOf : Verdict → Bool
-passesOf v = eqb (verdictNumber v) numbers.done
+abbrev pub passes_of : Verdict → Bool
+passes_of v = eqb (verdict_number v) numbers.done
 
 -- in order of checks: the first that refuses is told
 infixr 10 ◌then◌
 unfoldable pub ◌then◌ : Verdict → Verdict → Verdict
-v then w = cond (passesOf v) w v
+v then w = cond (passes_of v) w v
 
 -- a check, and what it answers where it does not pass
 abbrev pub told : Bool → Verdict → Verdict

@@ -5,7 +5,7 @@ mod section;
 pub mod verdict;
 
 ghost use Rattle.std.specs.Prelude.{◌≡◌};
-ghost use Rattle.sections.specs.Sections.{sectionsVerdict, levelsOf, fields_of, constantsOf, nodesOf};
+ghost use Rattle.sections.specs.Sections.{sections_verdict, levels_of, fields_of, constants_of, nodes_of};
 
 use reader::{after, entries, judge, judge_end, start};
 use verdict::{Verdict, in_order};
@@ -21,7 +21,7 @@ const NODE: u8 = 8;
 
 // Judges all sections in byte order.
 pub fn judge_sections(sheet: &[u8]) -> Verdict
-    ensures { result ≡ sectionsVerdict sheet.now }
+    ensures { result ≡ sections_verdict sheet.now }
 {
     let levels = start(sheet);
     let fields = after(levels, LEVEL);
@@ -42,7 +42,7 @@ pub fn judge_sections(sheet: &[u8]) -> Verdict
 
 // The order rows.
 pub fn levels(sheet: &[u8]) -> &[u8]
-    ensures { result.now ≡ levelsOf sheet.now }
+    ensures { result.now ≡ levels_of sheet.now }
 {
     entries(start(sheet), LEVEL)
 }
@@ -56,14 +56,14 @@ pub fn fields(sheet: &[u8]) -> &[u8]
 
 // The constants.
 pub fn constants(sheet: &[u8]) -> &[u8]
-    ensures { result.now ≡ constantsOf sheet.now }
+    ensures { result.now ≡ constants_of sheet.now }
 {
     entries(after(after(start(sheet), LEVEL), FIELD), CONSTANT)
 }
 
 // The nodes.
 pub fn nodes(sheet: &[u8]) -> &[u8]
-    ensures { result.now ≡ nodesOf sheet.now }
+    ensures { result.now ≡ nodes_of sheet.now }
 {
     entries(
         after(after(after(start(sheet), LEVEL), FIELD), CONSTANT),

@@ -2,7 +2,7 @@
 // in the middle, and a section read hands back the part that holds its entries. Every function takes any bytes and any offset: where the sheet
 // ends too soon, its end stands for the offset after.
 ghost use Rattle.std.specs.Prelude.{◌≡◌, ◌≤◌, min, length, drop};
-ghost use Rattle.sections.specs.Sections.{sectionEnd, entriesOf, sectionVerdict, endVerdict, offsetAfter};
+ghost use Rattle.sections.specs.Sections.{section_end, entries_of, section_verdict, end_verdict, offset_after};
 
 use crate::verdict::Verdict;
 use basis::word;
@@ -22,14 +22,14 @@ fn rest_at(sheet: &[u8], at: usize) -> &[u8]
 // Where the section at the front of the rest ends, by its count.
 fn section_end(rest: &[u8], size: u8) -> usize
     requires { 2 ≤ length rest.now }
-    ensures { result ≡ sectionEnd size rest.now }
+    ensures { result ≡ section_end size rest.now }
 {
     2 + word(rest, 0) as usize * size as usize
 }
 
 // The same, or the rest's own end where the section is cut.
 fn part_end(rest: &[u8], size: u8) -> usize
-    ensures { result ≡ min (sectionEnd size rest.now) (length rest.now) }
+    ensures { result ≡ min (section_end size rest.now) (length rest.now) }
 {
     let len = rest.len();
     if len < 2 {
@@ -41,7 +41,7 @@ fn part_end(rest: &[u8], size: u8) -> usize
 
 // The part that the section at the front of the rest covers: its entries without the count.
 fn entries(rest: &[u8], size: u8) -> &[u8]
-    ensures { result.now ≡ entriesOf size rest.now }
+    ensures { result.now ≡ entries_of size rest.now }
 {
     let end = part_end(rest, size);
     if end < 2 { &rest[end..] } else { &rest[2..end] }
@@ -49,7 +49,7 @@ fn entries(rest: &[u8], size: u8) -> &[u8]
 
 // Judges the section at the front of the rest: its count, the count's limits, its entries.
 fn judge_section(rest: &[u8], size: u8, least: u32, most: u32) -> Verdict
-    ensures { result ≡ sectionVerdict size least most rest.now }
+    ensures { result ≡ section_verdict size least most rest.now }
 {
     if rest.len() < 2 {
         return Verdict::Length;
@@ -70,19 +70,19 @@ fn judge_section(rest: &[u8], size: u8, least: u32, most: u32) -> Verdict
 
 // The section at an offset judged, its entries, and the offset after it.
 pub fn judge_at(sheet: &[u8], at: usize, size: u8, least: u32, most: u32) -> Verdict
-    ensures { result ≡ sectionVerdict size least most (drop at sheet.now) }
+    ensures { result ≡ section_verdict size least most (drop at sheet.now) }
 {
     judge_section(rest_at(sheet, at), size, least, most)
 }
 
 pub fn entries_at(sheet: &[u8], at: usize, size: u8) -> &[u8]
-    ensures { result.now ≡ entriesOf size (drop at sheet.now) }
+    ensures { result.now ≡ entries_of size (drop at sheet.now) }
 {
     entries(rest_at(sheet, at), size)
 }
 
 pub fn offset_after(sheet: &[u8], at: usize, size: u8) -> usize
-    ensures { result ≡ offsetAfter sheet.now at size }
+    ensures { result ≡ offset_after sheet.now at size }
 {
     let len = sheet.len();
     if len < at {
@@ -93,7 +93,7 @@ pub fn offset_after(sheet: &[u8], at: usize, size: u8) -> usize
 
 // Judges what is left after the last section: nothing may be.
 pub fn judge_end(sheet: &[u8], at: usize) -> Verdict
-    ensures { result ≡ endVerdict (drop at sheet.now) }
+    ensures { result ≡ end_verdict (drop at sheet.now) }
 {
     if rest_at(sheet, at).len() == 0 {
         Verdict::Passes

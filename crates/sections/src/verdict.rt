@@ -1,6 +1,6 @@
 // What load answers. `specs/Verdict` gives each case its number in document 01's table.
 ghost use Rattle.std.specs.Prelude.{◌≡◌};
-ghost use Rattle.sections.specs.Verdict.{faultNumber, verdictNumber, verdictPlace, passesOf, ◌then◌};
+ghost use Rattle.sections.specs.Verdict.{fault_number, verdict_number, verdict_place, passes_of, ◌then◌};
 
 use basis::numbers;
 
@@ -38,7 +38,7 @@ pub enum Fault {
 
 // The number of a node's fault.
 fn fault_number(fault: Fault) -> u8
-    ensures { result ≡ faultNumber fault }
+    ensures { result ≡ fault_number fault }
 {
     match fault {
         Fault::Unknown => numbers::NODE_UNKNOWN,
@@ -50,7 +50,7 @@ fn fault_number(fault: Fault) -> u8
 
 // The number of a verdict in document 01's table.
 pub fn number(v: Verdict) -> u8
-    ensures { result ≡ verdictNumber v }
+    ensures { result ≡ verdict_number v }
 {
     match v {
         Verdict::Passes => numbers::DONE,
@@ -66,7 +66,7 @@ pub fn number(v: Verdict) -> u8
 
 // Its place: that of a node's fault is the node's number.
 pub fn place(v: Verdict) -> usize
-    ensures { result ≡ verdictPlace v }
+    ensures { result ≡ verdict_place v }
 {
     match v {
         Verdict::Passes => 0,
@@ -81,7 +81,7 @@ pub fn place(v: Verdict) -> usize
 }
 
 pub fn passes(v: Verdict) -> bool
-    ensures { result ≡ passesOf v }
+    ensures { result ≡ passes_of v }
 {
     number(v) == numbers::DONE
 }

@@ -1,18 +1,18 @@
 -- How deep trees are: document 01, "The last node is at depth 1, a child one deeper; depth is at most 64".
 use Rattle.std.specs.Prelude.{ℕ, suc, max}
-use Rattle.sheet.specs.Trees.{Exp, constant, field, operator, not, seal, Cmd, skip, assign, sequence, ifElse, while}
+use Rattle.sheet.specs.Trees.{Exp, constant, field, operator, not, seal, Cmd, skip, assign, sequence, if_else, while}
 
 -- the greatest depth of a tree's nodes
-unfoldable pub expDepth : Exp → ℕ
-expDepth (constant z) = 1
-expDepth (field a) = 1
-expDepth (operator place op a b) = suc (max (expDepth a) (expDepth b))
-expDepth (not a) = suc (expDepth a)
-expDepth (seal a) = suc (expDepth a)
+unfoldable pub exp_depth : Exp → ℕ
+exp_depth (constant z) = 1
+exp_depth (field a) = 1
+exp_depth (operator place op a b) = suc (max (exp_depth a) (exp_depth b))
+exp_depth (not a) = suc (exp_depth a)
+exp_depth (seal a) = suc (exp_depth a)
 
-unfoldable pub cmdDepth : Cmd → ℕ
-cmdDepth (skip place) = 1
-cmdDepth (assign place a b) = suc (expDepth b)
-cmdDepth (sequence a b) = suc (max (cmdDepth a) (cmdDepth b))
-cmdDepth (ifElse place a b c) = suc (max (expDepth a) (max (cmdDepth b) (cmdDepth c)))
-cmdDepth (while place a b) = suc (max (expDepth a) (cmdDepth b))
+unfoldable pub cmd_depth : Cmd → ℕ
+cmd_depth (skip place) = 1
+cmd_depth (assign place a b) = suc (exp_depth b)
+cmd_depth (sequence a b) = suc (max (cmd_depth a) (cmd_depth b))
+cmd_depth (if_else place a b c) = suc (max (exp_depth a) (max (cmd_depth b) (cmd_depth c)))
+cmd_depth (while place a b) = suc (max (exp_depth a) (cmd_depth b))

@@ -1,7 +1,7 @@
 // How deep the tree is, by recursion on the node number. The depth allowed falls with it, so that no sheet makes more calls nest than the depth
 // allows. The nodes come behind a reference to the slice: a frame is a few registers.
 ghost use Rattle.std.specs.Prelude.{◌≡◌, List, ℕ, ◌<◌, leb};
-ghost use Rattle.sheet.specs.Inside.Depth.{NodeIn, depthAt, depthIn};
+ghost use Rattle.sheet.specs.Inside.Depth.{NodeIn, depth_at, depth_in};
 
 use nodes::{held_in, is_child, kind_of, slot};
 
@@ -9,7 +9,7 @@ use nodes::{held_in, is_child, kind_of, slot};
 #[cycle(child_fits_fits)]
 pub fn fits(nodes: &&[u8], n: usize, most: u32) -> bool
     requires { NodeIn nodes.now.now n }
-    ensures { (constants : List ℕ) → result ≡ leb (depthAt constants nodes.now.now n) most }
+    ensures { (constants : List ℕ) → result ≡ leb (depth_at constants nodes.now.now n) most }
 {
     if most == 0 {
         return false;
@@ -27,7 +27,7 @@ pub fn fits(nodes: &&[u8], n: usize, most: u32) -> bool
 #[cycle(child_fits_fits)]
 fn child_fits(nodes: &&[u8], n: usize, k: usize, most: u32) -> bool
     requires { NodeIn nodes.now.now n × (k < 3) }
-    ensures { (constants : List ℕ) → result ≡ leb (depthIn constants nodes.now.now n k) most }
+    ensures { (constants : List ℕ) → result ≡ leb (depth_in constants nodes.now.now n k) most }
 {
     if is_child(held_in(kind_of(*nodes, n), k)) {
         return fits(nodes, slot(*nodes, n, k), most);

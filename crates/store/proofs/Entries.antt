@@ -12,25 +12,25 @@ use Rattle.basis.specs.Bytes.{word_at}
 use Rattle.value.specs.Bytes.{bytes_of}
 use Rattle.store.specs.Cells.{Cell, cell, Store}
 use Rattle.store.specs.Marks.{Mark}
-use Rattle.store.specs.Stores.{entryLength, entry_at, storeLength, cell_at, entry_of, storeEntries, storeBytes}
+use Rattle.store.specs.Stores.{entry_length, entry_at, store_length, cell_at, entry_of, store_entries, store_bytes}
 
-pub entry_length : (c : Cell Mark) → length (entry_of c) ≡ entryLength
+pub entry_length_lem : (c : Cell Mark) → length (entry_of c) ≡ entry_length
 unfolding entry_of bytes_of
-entry_length (cell v m) = refl
+entry_length_lem (cell v m) = refl
 
 module _ (σ : Store Mark) where
-  pub no-entries : storeEntries σ 0 ≡ []
-  unfolding storeEntries
-  no-entries = refl
+  pub no_entries : store_entries σ 0 ≡ []
+  unfolding store_entries
+  no_entries = refl
 
-  pub one-entry-more : (i : ℕ) → storeEntries σ i ++ entry_of (σ i) ≡ storeEntries σ (i + 1)
-  unfolding storeEntries
-  one-entry-more i = ap (storeEntries σ) (sym (add-one i))
+  pub one_entry_more : (i : ℕ) → store_entries σ i ++ entry_of (σ i) ≡ store_entries σ (i + 1)
+  unfolding store_entries
+  one_entry_more i = ap (store_entries σ) (sym (add-one i))
 
-pub entries-length : (σ : Store Mark) (k : ℕ) → length (storeEntries σ k) ≡ k * entryLength
-unfolding storeEntries
+pub entries-length : (σ : Store Mark) (k : ℕ) → length (store_entries σ k) ≡ k * entry_length
+unfolding store_entries
 entries-length σ zero = refl
-entries-length σ (suc k) = omega (arith, length-append (storeEntries σ k) (entry_of (σ k)), entries-length σ k, entry_length (σ k))
+entries-length σ (suc k) = omega (arith, length-append (store_entries σ k) (entry_of (σ k)), entries-length σ k, entry_length_lem (σ k))
 
 -- beyond its fields a store reads as zeros
 pub past-fields : (store : List ℕ) (i : ℕ) → length store ≤ entry_at i → cell_at store i ≡ cell_at [] 0
@@ -47,46 +47,46 @@ past-fields store i h =
 
 -- ── a store that was written, read back ─────────────────────────────────────────────────────
 
-pub store_length : (σ : Store Mark) (fields : ℕ) → length (storeBytes σ fields) ≡ storeLength fields
-unfolding storeBytes
-store_length σ fields = omega (arith, entries-length σ fields)
+pub store_length_lem : (σ : Store Mark) (fields : ℕ) → length (store_bytes σ fields) ≡ store_length fields
+unfolding store_bytes
+store_length_lem σ fields = omega (arith, entries-length σ fields)
 
 -- its count, if the count fits a byte
-pub count-back : (σ : Store Mark) (fields : ℕ) → fields < 256 → word_at (storeBytes σ fields) 0 ≡ fields
-unfolding storeBytes
-count-back σ fields h = omega (arith, mod-eq_of_lt h)
+pub count_back : (σ : Store Mark) (fields : ℕ) → fields < 256 → word_at (store_bytes σ fields) 0 ≡ fields
+unfolding store_bytes
+count_back σ fields h = omega (arith, mod-eq_of_lt h)
 
 -- byte j of field i's entry
-entries_at : (σ : Store Mark) (k i j : ℕ) → i < k → j < entryLength → get_or (storeEntries σ k) (i * entryLength + j) 0 ≡ get_or (entry_of (σ i)) j 0
-unfolding storeEntries
+entries_at : (σ : Store Mark) (k i j : ℕ) → i < k → j < entry_length → get_or (store_entries σ k) (i * entry_length + j) 0 ≡ get_or (entry_of (σ i)) j 0
+unfolding store_entries
 entries_at σ zero i j h few = absurd (omega arith)
 entries_at σ (suc k) i j h few = go (ℕ_discrete i k) (entries_at σ k i j)
   where
-    go : Dec (i ≡ k) → (i < k → j < entryLength → get_or (storeEntries σ k) (i * entryLength + j) 0 ≡ get_or (entry_of (σ i)) j 0)
-        → get_or (storeEntries σ k ++ entry_of (σ k)) (i * entryLength + j) 0 ≡ get_or (entry_of (σ i)) j 0
+    go : Dec (i ≡ k) → (i < k → j < entry_length → get_or (store_entries σ k) (i * entry_length + j) 0 ≡ get_or (entry_of (σ i)) j 0)
+        → get_or (store_entries σ k ++ entry_of (σ k)) (i * entry_length + j) 0 ≡ get_or (entry_of (σ i)) j 0
     go (yes e) before =
-        let here : i * entryLength + j ≡ length (storeEntries σ k) + j = omega (arith, entries-length σ k, e) in
-        rw (here, e) (get_or-append-add (storeEntries σ k) (entry_of (σ k)) j 0)
+        let here : i * entry_length + j ≡ length (store_entries σ k) + j = omega (arith, entries-length σ k, e) in
+        rw (here, e) (get_or-append-add (store_entries σ k) (entry_of (σ k)) j 0)
     go (no ne) before =
         let less : i < k = omega (arith, ne) in
-        get_or-append (storeEntries σ k) (entry_of (σ k)) 0 (i * entryLength + j) (omega (arith, entries-length σ k)) ∙ before less few
+        get_or-append (store_entries σ k) (entry_of (σ k)) 0 (i * entry_length + j) (omega (arith, entries-length σ k)) ∙ before less few
 
-store_at : (σ : Store Mark) (fields i at j : ℕ) → i < fields → j < entryLength → at ≡ entry_at i + j → get_or (storeBytes σ fields) at 0 ≡ get_or (entry_of (σ i)) j 0
-unfolding storeBytes
-store_at σ fields i at j h few e =
-    let offset : at ≡ 2 + (i * entryLength + j) = omega arith in
-    ap (λ (k : ℕ). get_or (storeBytes σ fields) k 0) offset
-    ∙ get_or-append-add (fields % 256 ∷ 0 ∷ []) (storeEntries σ fields) (i * entryLength + j) 0
+store_at_lem : (σ : Store Mark) (fields i at j : ℕ) → i < fields → j < entry_length → at ≡ entry_at i + j → get_or (store_bytes σ fields) at 0 ≡ get_or (entry_of (σ i)) j 0
+unfolding store_bytes
+store_at_lem σ fields i at j h few e =
+    let offset : at ≡ 2 + (i * entry_length + j) = omega arith in
+    ap (λ (k : ℕ). get_or (store_bytes σ fields) k 0) offset
+    ∙ get_or-append-add (fields % 256 ∷ 0 ∷ []) (store_entries σ fields) (i * entry_length + j) 0
     ∙ entries_at σ fields i j h few
 
 -- a field is what its own entry says
-pub entry-back : (σ : Store Mark) (fields i : ℕ) → i < fields → cell_at (storeBytes σ fields) i ≡ cell_at (0 ∷ 0 ∷ entry_of (σ i)) 0
+pub entry_back : (σ : Store Mark) (fields i : ℕ) → i < fields → cell_at (store_bytes σ fields) i ≡ cell_at (0 ∷ 0 ∷ entry_of (σ i)) 0
 unfolding cell_at
-entry-back σ fields i h =
+entry_back σ fields i h =
     rw (
-      store_at σ fields i (entry_at i) 0 h (omega arith) (omega arith),
-      store_at σ fields i (entry_at i + 1) 1 h (omega arith) (omega arith),
-      store_at σ fields i (entry_at i + 1 + 1) 2 h (omega arith) (omega arith),
-      store_at σ fields i (entry_at i + 1 + 2) 3 h (omega arith) (omega arith),
-      store_at σ fields i (entry_at i + 1 + 3) 4 h (omega arith) (omega arith),
+      store_at_lem σ fields i (entry_at i) 0 h (omega arith) (omega arith),
+      store_at_lem σ fields i (entry_at i + 1) 1 h (omega arith) (omega arith),
+      store_at_lem σ fields i (entry_at i + 1 + 1) 2 h (omega arith) (omega arith),
+      store_at_lem σ fields i (entry_at i + 1 + 2) 3 h (omega arith) (omega arith),
+      store_at_lem σ fields i (entry_at i + 1 + 3) 4 h (omega arith) (omega arith),
     )

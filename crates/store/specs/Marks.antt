@@ -4,13 +4,13 @@ use Rattle.std.specs.Prelude.{ℕ, ◌+◌, ◌-◌, ◌%◌, Bool, true, false,
 pub data Mark : Type 0 where
   whole partial : ℕ → Mark
 
-abbrev pub levelOf : Mark → ℕ
-levelOf (whole a) = a
-levelOf (partial a) = a
+abbrev pub level_of : Mark → ℕ
+level_of (whole a) = a
+level_of (partial a) = a
 
-abbrev pub isPartial : Mark → Bool
-isPartial (whole a) = false
-isPartial (partial a) = true
+abbrev pub is_partial : Mark → Bool
+is_partial (whole a) = false
+is_partial (partial a) = true
 
 -- The mark is the level, plus 16 when partial. A store entry without 16 is whole.
 unfoldable pub mark_of : ℕ → Mark
@@ -28,9 +28,9 @@ unfoldable pub mode_of : ℕ → Mode
 mode_of number = cond (eqb number 0) strict permissive
 
 -- 9: a mark above 31 or its level unknown; in a strict run also a partial mark
-unfoldable pub markKnown : ℕ → ℕ → Bool
-markKnown levels byte = leb byte 31 && ltb (byte % 16) levels
+unfoldable pub mark_known : ℕ → ℕ → Bool
+mark_known levels byte = leb byte 31 && ltb (byte % 16) levels
 
-abbrev pub markTaken : Mode → ℕ → ℕ → Bool
-markTaken strict levels byte = markKnown levels byte && ltb byte 16
-markTaken permissive levels byte = markKnown levels byte
+abbrev pub mark_taken : Mode → ℕ → ℕ → Bool
+mark_taken strict levels byte = mark_known levels byte && ltb byte 16
+mark_taken permissive levels byte = mark_known levels byte

@@ -4,28 +4,28 @@ use Rattle.basis.specs.Bytes.{word_at}
 use Rattle.basis.specs.Tests.{all}
 use Rattle.value.specs.Bytes.{bytes_of, value_at}
 use Rattle.value.specs.declared.Value.{Value}
-use Rattle.store.specs.Marks.{Mark, mark_of, byte_of, Mode, markTaken}
+use Rattle.store.specs.Marks.{Mark, mark_of, byte_of, Mode, mark_taken}
 use Rattle.store.specs.Cells.{Cell, cell, Store}
 
 -- how long an entry is, where field i's begins, and how long a store of so many fields is
-abbrev pub entryLength : ℕ
-entryLength = 5
+abbrev pub entry_length : ℕ
+entry_length = 5
 
 abbrev pub entry_at : ℕ → ℕ
-entry_at i = 2 + i * entryLength
+entry_at i = 2 + i * entry_length
 
-abbrev pub storeLength : ℕ → ℕ
-storeLength fields = 2 + fields * entryLength
+abbrev pub store_length : ℕ → ℕ
+store_length fields = 2 + fields * entry_length
 
 -- one mark byte and a signed 4-byte value
-abbrev pub markAt : List ℕ → ℕ → ℕ
-markAt s i = get_or s (entry_at i) 0
+abbrev pub mark_at : List ℕ → ℕ → ℕ
+mark_at s i = get_or s (entry_at i) 0
 
 abbrev pub value_of : List ℕ → ℕ → Value
 value_of s i = value_at s (entry_at i + 1)
 
 unfoldable pub cell_at : List ℕ → ℕ → Cell Mark
-cell_at s i = cell (value_of s i) (mark_of (markAt s i))
+cell_at s i = cell (value_of s i) (mark_of (mark_at s i))
 
 abbrev pub store_of : List ℕ → Store Mark
 store_of s = cell_at s
@@ -34,21 +34,21 @@ store_of s = cell_at s
 unfoldable pub entry_of : Cell Mark → List ℕ
 entry_of (cell v m) = byte_of m ∷ bytes_of v.n
 
-unfoldable pub storeEntries : Store Mark → ℕ → List ℕ
-storeEntries σ zero = []
-storeEntries σ (suc i) = storeEntries σ i ++ entry_of (σ i)
+unfoldable pub store_entries : Store Mark → ℕ → List ℕ
+store_entries σ zero = []
+store_entries σ (suc i) = store_entries σ i ++ entry_of (σ i)
 
-unfoldable pub storeBytes : Store Mark → ℕ → List ℕ
-storeBytes σ fields = fields % 256 ∷ 0 ∷ storeEntries σ fields
+unfoldable pub store_bytes : Store Mark → ℕ → List ℕ
+store_bytes σ fields = fields % 256 ∷ 0 ∷ store_entries σ fields
 
 -- Success writes exactly the store; later bytes stay.
-abbrev pub storeOver : Store Mark → ℕ → List ℕ → List ℕ
-storeOver σ fields out = storeBytes σ fields ++ drop (storeLength fields) out
+abbrev pub store_over : Store Mark → ℕ → List ℕ → List ℕ
+store_over σ fields out = store_bytes σ fields ++ drop (store_length fields) out
 
 -- 8: store length or count doesn't fit the sheet
-unfoldable pub storeFits : ℕ → List ℕ → Bool
-storeFits fields s = eqb (length s) (storeLength fields) && eqb (word_at s 0) fields
+unfoldable pub store_fits : ℕ → List ℕ → Bool
+store_fits fields s = eqb (length s) (store_length fields) && eqb (word_at s 0) fields
 
 -- 9: every field's mark is taken
-unfoldable pub marksRight : Mode → ℕ → ℕ → List ℕ → Bool
-marksRight mode levels fields s = all fields (λ i. markTaken mode levels (markAt s i))
+unfoldable pub marks_right : Mode → ℕ → ℕ → List ℕ → Bool
+marks_right mode levels fields s = all fields (λ i. mark_taken mode levels (mark_at s i))

@@ -3,8 +3,8 @@
 ghost use Rattle.std.specs.Prelude.{◌≡◌, ◌∷◌, ◌+◌, ◌≤◌, ◌<◌, length};
 ghost use Rattle.std.proofs.lemmas.List.Edits.{sets};
 ghost use Rattle.value.specs.Bytes.{bytes_of};
-ghost use Rattle.store.specs.Marks.{levelOf, isPartial, partial, mark_of, mode_of, markTaken};
-ghost use Rattle.store.specs.Stores.{entry_at, storeLength, markAt, value_of, storeFits, marksRight};
+ghost use Rattle.store.specs.Marks.{level_of, is_partial, partial, mark_of, mode_of, mark_taken};
+ghost use Rattle.store.specs.Stores.{entry_at, store_length, mark_at, value_of, store_fits, marks_right};
 
 use value::Value;
 
@@ -22,20 +22,20 @@ pub const LONGEST: usize = 2 + 64 * ENTRY;
 // The level of a mark.
 pub fn level_of(mark: u32) -> usize
     requires { mark < 32 }
-    ensures { (result ≡ levelOf (mark_of mark)) × (result < 16) }
+    ensures { (result ≡ level_of (mark_of mark)) × (result < 16) }
 {
     (mark % PARTIAL) as usize
 }
 
 // The level that any byte says, also one above 31, which no run takes.
 pub fn level_said(mark: u32) -> u32
-    ensures { result ≡ levelOf (mark_of mark) }
+    ensures { result ≡ level_of (mark_of mark) }
 {
     if mark < PARTIAL { mark } else { mark - PARTIAL }
 }
 
 pub fn is_partial(mark: u32) -> bool
-    ensures { result ≡ isPartial (mark_of mark) }
+    ensures { result ≡ is_partial (mark_of mark) }
 {
     PARTIAL <= mark
 }
@@ -50,7 +50,7 @@ pub fn partial_at(level: usize) -> u32
 
 // Whether a run in a mode takes a mark: with a level of the sheet, and whole in a strict run.
 fn mark_taken(mark: u32, mode: u32, levels: usize) -> bool
-    ensures { result ≡ markTaken (mode_of mode) levels mark }
+    ensures { result ≡ mark_taken (mode_of mode) levels mark }
 {
     let known = (mark <= 31) & (((mark % PARTIAL) as usize) < levels);
     if mode == 0 {
@@ -65,7 +65,7 @@ fn mark_taken(mark: u32, mode: u32, levels: usize) -> bool
 // How long a store of so many fields is.
 pub fn length(fields: usize) -> usize
     requires { fields ≤ 64 }
-    ensures { result ≡ storeLength fields }
+    ensures { result ≡ store_length fields }
 {
     2 + fields * ENTRY
 }
@@ -73,7 +73,7 @@ pub fn length(fields: usize) -> usize
 // Whether a store's length and count are those of so many fields.
 pub fn fits(store: &[u8], fields: usize) -> bool
     requires { fields ≤ 64 }
-    ensures { result ≡ storeFits fields store.now }
+    ensures { result ≡ store_fits fields store.now }
 {
     if store.len() != length(fields) {
         return false;
@@ -83,15 +83,15 @@ pub fn fits(store: &[u8], fields: usize) -> bool
 
 // Field i's mark.
 pub fn mark_at(store: &[u8], i: usize) -> u32
-    requires { storeLength (i + 1) ≤ length store.now }
-    ensures { (result ≡ markAt store.now i) × (result < 256) }
+    requires { store_length (i + 1) ≤ length store.now }
+    ensures { (result ≡ mark_at store.now i) × (result < 256) }
 {
     basis::wide(store[2 + i * ENTRY])
 }
 
 // Field i's value.
 pub fn value_at(store: &[u8], i: usize) -> Value
-    requires { storeLength (i + 1) ≤ length store.now }
+    requires { store_length (i + 1) ≤ length store.now }
     ensures { result ≡ value_of store.now i }
 {
     Value::read(store, 2 + i * ENTRY + 1)
@@ -99,8 +99,8 @@ pub fn value_at(store: &[u8], i: usize) -> Value
 
 // Whether a run in a mode takes every field's mark.
 pub fn marks_right(store: &[u8], mode: u32, levels: usize, fields: usize) -> bool
-    requires { storeLength fields ≤ length store.now }
-    ensures { result ≡ marksRight (mode_of mode) levels fields store.now }
+    requires { store_length fields ≤ length store.now }
+    ensures { result ≡ marks_right (mode_of mode) levels fields store.now }
 {
     let mut i = 0;
     while i < fields {
@@ -114,7 +114,7 @@ pub fn marks_right(store: &[u8], mode: u32, levels: usize, fields: usize) -> boo
 
 // Writes field i's entry.
 pub fn put_field(out: &mut [u8], i: usize, mark: u32, v: Value)
-    requires { (storeLength (i + 1) ≤ length out.old) × (mark < 256) }
+    requires { (store_length (i + 1) ≤ length out.old) × (mark < 256) }
     ensures { out.new ≡ sets out.old (entry_at i) (mark ∷ bytes_of v.n) }
 {
     let at = 2 + i * ENTRY;

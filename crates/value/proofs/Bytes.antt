@@ -24,16 +24,16 @@ joined u h =
       mod-eq_of_lt h.fits,
     )
 
-pub value-of-bytes : (z : ℤ) → SFits w32 z → of_bytes (get_or (bytes_of z) 0 0) (get_or (bytes_of z) 1 0) (get_or (bytes_of z) 2 0) (get_or (bytes_of z) 3 0) ≡ z
+pub value_of_bytes : (z : ℤ) → SFits w32 z → of_bytes (get_or (bytes_of z) 0 0) (get_or (bytes_of z) 1 0) (get_or (bytes_of z) 2 0) (get_or (bytes_of z) 3 0) ≡ z
 unfolding of_bits bits_of bytes_of
-value-of-bytes z f = ap of_bits (joined (of_z w32 z) (Fits-of_z f)) ∙ to_z-of_z f
+value_of_bytes z f = ap of_bits (joined (of_z w32 z) (Fits-of_z f)) ∙ to_z-of_z f
 
 low : (b n : ℕ) → b < 256 → (b + n * 256) % 256 ≡ b
 low b n h = omega arith
 
-pub bytes-of-value : (b0 b1 b2 b3 : ℕ) → b0 < 256 → b1 < 256 → b2 < 256 → b3 < 256 → bytes_of (of_bytes b0 b1 b2 b3) ≡ b0 ∷ b1 ∷ b2 ∷ b3 ∷ []
+pub bytes_of_value : (b0 b1 b2 b3 : ℕ) → b0 < 256 → b1 < 256 → b2 < 256 → b3 < 256 → bytes_of (of_bytes b0 b1 b2 b3) ≡ b0 ∷ b1 ∷ b2 ∷ b3 ∷ []
 unfolding of_bits bits_of bytes_of
-bytes-of-value b0 b1 b2 b3 h0 h1 h2 h3 =
+bytes_of_value b0 b1 b2 b3 h0 h1 h2 h3 =
     let u : ℕ = b0 + b1 * 256 + b2 * 65536 + b3 * 16777216 in
     let e0 : u % 256 ≡ b0 = omega arith in
     let e1 : u / 256 ≡ b1 + (b2 + b3 * 256) * 256 = omega arith in

@@ -13,23 +13,23 @@ use mir.Val.{Fits, SFits, to_z, of_z}
 use mir.Facts.{to_z_pos, sfits_to_z, Fits-of_z}
 use Rattle.value.proofs.Wide.{read, Holds, held, Widened, widened}
 
-bits-below-zero : (x : ℤ) → SFits w32 x → lt_z x (pos 0) ≡ true → x +ℤ pos 4294967296 ≡ pos (of_z w32 x)
-bits-below-zero (pos n) f e = absurd (omega (arith, ltb-true n 0 e))
-bits-below-zero (negsuc k) f e = rw (le-ltb 4294967296 (suc k) (omega arith))
+bits_below_zero : (x : ℤ) → SFits w32 x → lt_z x (pos 0) ≡ true → x +ℤ pos 4294967296 ≡ pos (of_z w32 x)
+bits_below_zero (pos n) f e = absurd (omega (arith, ltb-true n 0 e))
+bits_below_zero (negsuc k) f e = rw (le-ltb 4294967296 (suc k) (omega arith))
 
-bits-from-zero : (x : ℤ) → lt_z x (pos 0) ≡ false → x ≡ pos (of_z w32 x)
-bits-from-zero (pos n) e = refl
-bits-from-zero (negsuc k) e = absurd (true≢false e)
+bits_from_zero : (x : ℤ) → lt_z x (pos 0) ≡ false → x ≡ pos (of_z w32 x)
+bits_from_zero (pos n) e = refl
+bits_from_zero (negsuc k) e = absurd (true≢false e)
 
 module _ {r x : ℤ} (h : Widened r x) where
   pub raised : lt_z (read r) (pos 0) ≡ true → Holds (read r +ℤ pos 4294967296) (pos (of_z w32 x))
   raised e = (
-    subst (λ (z : ℤ). lt_z z (pos 0) ≡ true → z +ℤ pos 4294967296 ≡ pos (of_z w32 x)) (sym (held (widened h))) (bits-below-zero x h.1) e,
+    subst (λ (z : ℤ). lt_z z (pos 0) ≡ true → z +ℤ pos 4294967296 ≡ pos (of_z w32 x)) (sym (held (widened h))) (bits_below_zero x h.1) e,
     record { sfits = omega (arith, Fits-of_z h.1) },
   )
 
   pub kept : lt_z (read r) (pos 0) ≡ false → read r ≡ pos (of_z w32 x)
-  kept = subst (λ (z : ℤ). lt_z z (pos 0) ≡ false → z ≡ pos (of_z w32 x)) (sym (held (widened h))) (bits-from-zero x)
+  kept = subst (λ (z : ℤ). lt_z z (pos 0) ≡ false → z ≡ pos (of_z w32 x)) (sym (held (widened h))) (bits_from_zero x)
 
   -- a value's bits can be cast to a u32
   pub casts : {z : ℤ} → z ≡ pos (of_z w32 x) → T (non_neg z) × Fits w32 (nat_abs z)

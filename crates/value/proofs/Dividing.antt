@@ -11,13 +11,13 @@ use borrow.Author.Tests.{ltb-true, ltb-false, leb-true, leb-false, lt-leb, le-le
 use lib.Dec.{ltb, leb, leb-suc-zero, leb-suc-suc}
 use lib.IntN.{ℤ, pos, negsuc, neg_ℤ, nat_abs, sub_ℕ, ◌+ℤ◌, ◌-ℤ◌, ◌*ℤ◌, neg_ℤ-+ℤ, neg_ℤ-neg_ℤ, *ℤ-negsuc, +ℤ_comm, -ℤ-+ℤ_cancel, +ℤ-neg_ℤ_cancel}
 use lib.Signed.{non_neg, le_z}
-use Rattle.value.specs.Values.{least, exactly, floor, quot, rest, notAbove}
+use Rattle.value.specs.Values.{least, exactly, floor, quot, rest, not_above}
 use Rattle.value.specs.declared.Computed.TheVariants.{Is, OutOfRange}
-use Rattle.value.proofs.Sizes.{size-negated}
+use Rattle.value.proofs.Sizes.{size_negated}
 
 -- ---- the order turned round
-difference-sign : (a b : ℕ) → non_neg (sub_ℕ a b) ≡ leb b a
-difference-sign a b = go (ltb a b) refl
+difference_sign : (a b : ℕ) → non_neg (sub_ℕ a b) ≡ leb b a
+difference_sign a b = go (ltb a b) refl
   where
     go : (t : Bool) → ltb a b ≡ t → non_neg (cond t (negsuc (b - suc a)) (pos (a - b))) ≡ leb b a
     go true e = sym (lt-leb b a (ltb-true a b e))
@@ -25,11 +25,11 @@ difference-sign a b = go (ltb a b) refl
 
 by_difference : (a b : ℤ) → le_z a b ≡ non_neg (neg_ℤ a +ℤ b)
 by_difference (pos zero) (pos b) = le-leb zero b (omega arith)
-by_difference (pos (suc a)) (pos b) = sym (difference-sign b (suc a))
-by_difference (pos zero) (negsuc b) = sym (difference-sign zero (suc b) ∙ leb-suc-zero b)
+by_difference (pos (suc a)) (pos b) = sym (difference_sign b (suc a))
+by_difference (pos zero) (negsuc b) = sym (difference_sign zero (suc b) ∙ leb-suc-zero b)
 by_difference (pos (suc a)) (negsuc b) = refl
 by_difference (negsuc a) (pos b) = refl
-by_difference (negsuc a) (negsuc b) = sym (difference-sign (suc a) (suc b) ∙ leb-suc-suc b a)
+by_difference (negsuc a) (negsuc b) = sym (difference_sign (suc a) (suc b) ∙ leb-suc-suc b a)
 
 turned : (a b : ℤ) → le_z a (neg_ℤ b) ≡ le_z b (neg_ℤ a)
 turned a b = by_difference a (neg_ℤ b) ∙ ap non_neg (+ℤ_comm (neg_ℤ a) (neg_ℤ b)) ∙ sym (by_difference b (neg_ℤ a))
@@ -44,27 +44,27 @@ same_test k l m n laws = go (leb m n) (leb k l) refl refl
     go false true e f = absurd (omega (arith, leb-false m n e, laws.0 (leb-true k l f)))
     go false false e f = refl
 
-below-zero : (n a : ℕ) → le_z (neg_ℤ (pos n)) (negsuc a) ≡ leb (suc a) n
-below-zero zero a = sym (leb-suc-zero a)
-below-zero (suc n) a = sym (leb-suc-suc a n)
+below_zero : (n a : ℕ) → le_z (neg_ℤ (pos n)) (negsuc a) ≡ leb (suc a) n
+below_zero zero a = sym (leb-suc-zero a)
+below_zero (suc n) a = sym (leb-suc-suc a n)
 
-below-pos : (n a : ℕ) → le_z (neg_ℤ (pos n)) (pos a) ≡ true
-below-pos zero a = le-leb zero a (omega arith)
-below-pos (suc n) a = refl
+below_pos : (n a : ℕ) → le_z (neg_ℤ (pos n)) (pos a) ≡ true
+below_pos zero a = le-leb zero a (omega arith)
+below_pos (suc n) a = refl
 
 floor-greatest : (q x : ℤ) {b : ℕ} → 0 < b → le_z (q *ℤ pos b) x ≡ le_z q (floor x b)
 floor-greatest (pos m) (pos a) {b} h = same_test m (a / b) (m * b) a (le-div_iff_mul-le h)
 floor-greatest (pos m) (negsuc a) h = refl
-floor-greatest (negsuc m) (pos a) {b} h = below-pos (suc m * b) a
+floor-greatest (negsuc m) (pos a) {b} h = below_pos (suc m * b) a
 floor-greatest (negsuc m) (negsuc a) {b} h =
-    below-zero (suc m * b) a ∙ same_test (suc (a / b)) (suc m) (suc a) (suc m * b) (div-lt_iff_lt-mul h) ∙ leb-suc-suc (a / b) m
+    below_zero (suc m * b) a ∙ same_test (suc (a / b)) (suc m) (suc a) (suc m * b) (div-lt_iff_lt-mul h) ∙ leb-suc-suc (a / b) m
 
-pub not-above : (q x y : ℤ) → 0 < nat_abs y → notAbove q x y ≡ le_z q (quot x y)
-not-above q x (pos b) h = floor-greatest q x h
-not-above q x (negsuc b) h = ap (le_z x) (*ℤ-negsuc q b) ∙ turned x (q *ℤ pos (suc b)) ∙ floor-greatest q (neg_ℤ x) h
+pub not_above_lem : (q x y : ℤ) → 0 < nat_abs y → not_above q x y ≡ le_z q (quot x y)
+not_above_lem q x (pos b) h = floor-greatest q x h
+not_above_lem q x (negsuc b) h = ap (le_z x) (*ℤ-negsuc q b) ∙ turned x (q *ℤ pos (suc b)) ∙ floor-greatest q (neg_ℤ x) h
 
-pub quot-greatest : (x y : ℤ) → 0 < nat_abs y → (notAbove (quot x y) x y ≡ true) × ((q : ℤ) → notAbove q x y ≡ true → le_z q (quot x y) ≡ true)
-quot-greatest x y h = (not-above (quot x y) x y h ∙ le_z_same (quot x y), λ q e. sym (not-above q x y h) ∙ e)
+pub quot-greatest : (x y : ℤ) → 0 < nat_abs y → (not_above (quot x y) x y ≡ true) × ((q : ℤ) → not_above q x y ≡ true → le_z q (quot x y) ≡ true)
+quot-greatest x y h = (not_above_lem (quot x y) x y h ∙ le_z_same (quot x y), λ q e. sym (not_above_lem q x y h) ∙ e)
   where
     le_z_same : (z : ℤ) → le_z z z ≡ true
     le_z_same (pos a) = le-leb a a (omega arith)
@@ -79,10 +79,10 @@ over : ℤ → ℕ → ℕ
 over (pos a) b = a % b
 over (negsuc a) b = b - suc (a % b)
 
-over-smaller : (x : ℤ) {b : ℕ} → 0 < b → over x b < b
+over_smaller : (x : ℤ) {b : ℕ} → 0 < b → over x b < b
 unfolding over
-over-smaller (pos a) h = mod-lt a h
-over-smaller (negsuc a) h = omega (arith, mod-lt a h)
+over_smaller (pos a) h = mod-lt a h
+over_smaller (negsuc a) h = omega (arith, mod-lt a h)
 
 parted : (x : ℤ) {b : ℕ} → 0 < b → pos (over x b) +ℤ floor x b *ℤ pos b ≡ x
 unfolding over
@@ -92,8 +92,8 @@ parted (negsuc a) {b} h =
     let taken : suc (a / b) * b ≡ suc (a + o) = omega (arith, suc-mul (a / b) b, div-add-mod' a b, mod-lt a h) in
     rw (taken, lt-ltb o (suc (a + o)) (omega arith)) (ap negsuc (omega arith))
 
-rest-above : (x : ℤ) {b : ℕ} → 0 < b → rest x (pos b) ≡ pos (over x b)
-rest-above x {b} h = ap (λ (z : ℤ). z -ℤ floor x b *ℤ pos b) (sym (parted x h)) ∙ +ℤ-neg_ℤ_cancel (pos (over x b)) (floor x b *ℤ pos b)
+rest_above : (x : ℤ) {b : ℕ} → 0 < b → rest x (pos b) ≡ pos (over x b)
+rest_above x {b} h = ap (λ (z : ℤ). z -ℤ floor x b *ℤ pos b) (sym (parted x h)) ∙ +ℤ-neg_ℤ_cancel (pos (over x b)) (floor x b *ℤ pos b)
 
 rest_below : (x : ℤ) (b : ℕ) → rest x (negsuc b) ≡ neg_ℤ (pos (over (neg_ℤ x) (suc b)))
 rest_below x b =
@@ -101,15 +101,15 @@ rest_below x b =
     ap (λ (z : ℤ). x -ℤ z) (*ℤ-negsuc (floor (neg_ℤ x) (suc b)) b)
     ∙ ap (λ (z : ℤ). z -ℤ neg_ℤ taken) (sym (neg_ℤ-neg_ℤ x))
     ∙ sym (neg_ℤ-+ℤ (neg_ℤ x) (neg_ℤ taken))
-    ∙ ap neg_ℤ (rest-above (neg_ℤ x) (omega arith))
+    ∙ ap neg_ℤ (rest_above (neg_ℤ x) (omega arith))
 
-pub rest-smaller : (x y : ℤ) → 0 < nat_abs y → nat_abs (rest x y) < nat_abs y
-rest-smaller x (pos b) h = rw (rest-above x h) (over-smaller x h)
-rest-smaller x (negsuc b) h = rw (rest_below x b, size-negated (pos (over (neg_ℤ x) (suc b)))) (over-smaller (neg_ℤ x) h)
+pub rest_smaller : (x y : ℤ) → 0 < nat_abs y → nat_abs (rest x y) < nat_abs y
+rest_smaller x (pos b) h = rw (rest_above x h) (over_smaller x h)
+rest_smaller x (negsuc b) h = rw (rest_below x b, size_negated (pos (over (neg_ℤ x) (suc b)))) (over_smaller (neg_ℤ x) h)
 
-pub rest-sign : (x y : ℤ) → 0 < nat_abs y → (rest x y ≡ pos 0) ⊎ (non_neg (rest x y) ≡ non_neg y)
-rest-sign x (pos b) h = inr (ap non_neg (rest-above x h))
-rest-sign x (negsuc b) h = rw (rest_below x b) (go (over (neg_ℤ x) (suc b)))
+pub rest_sign : (x y : ℤ) → 0 < nat_abs y → (rest x y ≡ pos 0) ⊎ (non_neg (rest x y) ≡ non_neg y)
+rest_sign x (pos b) h = inr (ap non_neg (rest_above x h))
+rest_sign x (negsuc b) h = rw (rest_below x b) (go (over (neg_ℤ x) (suc b)))
   where
     go : (n : ℕ) → (neg_ℤ (pos n) ≡ pos 0) ⊎ (non_neg (neg_ℤ (pos n)) ≡ false)
     go zero = inl refl

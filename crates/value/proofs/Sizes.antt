@@ -13,40 +13,40 @@ use mir.Syntax.{w32, w64}
 use mir.Val.{SFits}
 use Rattle.value.specs.Values.{least, greatest, floor, quot, rest}
 
-size-neg : (n : ℕ) → nat_abs (neg_ℤ (pos n)) ≡ n
-size-neg zero = refl
-size-neg (suc n) = refl
+size_neg : (n : ℕ) → nat_abs (neg_ℤ (pos n)) ≡ n
+size_neg zero = refl
+size_neg (suc n) = refl
 
-pub size-negated : (x : ℤ) → nat_abs (neg_ℤ x) ≡ nat_abs x
-size-negated (pos n) = size-neg n
-size-negated (negsuc n) = refl
+pub size_negated : (x : ℤ) → nat_abs (neg_ℤ x) ≡ nat_abs x
+size_negated (pos n) = size_neg n
+size_negated (negsuc n) = refl
 
-size-apart : (a b : ℕ) → nat_abs (sub_ℕ a b) ≤ a + b
-size-apart a b = go (ltb a b) refl
+size_apart : (a b : ℕ) → nat_abs (sub_ℕ a b) ≤ a + b
+size_apart a b = go (ltb a b) refl
   where
     go : (t : Bool) → ltb a b ≡ t → nat_abs (cond t (negsuc (b - suc a)) (pos (a - b))) ≤ a + b
     go true e = omega (arith, ltb-true a b e)
     go false e = omega arith
 
-pub size-sum : (x y : ℤ) → nat_abs (x +ℤ y) ≤ nat_abs x + nat_abs y
-size-sum (pos a) (pos b) = omega arith
-size-sum (pos a) (negsuc b) = size-apart a (suc b)
-size-sum (negsuc a) (pos b) = omega (arith, size-apart b (suc a))
-size-sum (negsuc a) (negsuc b) = omega arith
+pub size_sum : (x y : ℤ) → nat_abs (x +ℤ y) ≤ nat_abs x + nat_abs y
+size_sum (pos a) (pos b) = omega arith
+size_sum (pos a) (negsuc b) = size_apart a (suc b)
+size_sum (negsuc a) (pos b) = omega (arith, size_apart b (suc a))
+size_sum (negsuc a) (negsuc b) = omega arith
 
-pub size-product : (x y : ℤ) → nat_abs (x *ℤ y) ≡ nat_abs x * nat_abs y
-size-product (pos a) (pos b) = refl
-size-product (pos a) (negsuc b) = size-neg (a * suc b)
-size-product (negsuc a) (pos b) = size-neg (suc a * b)
-size-product (negsuc a) (negsuc b) = refl
+pub size_product : (x y : ℤ) → nat_abs (x *ℤ y) ≡ nat_abs x * nat_abs y
+size_product (pos a) (pos b) = refl
+size_product (pos a) (negsuc b) = size_neg (a * suc b)
+size_product (negsuc a) (pos b) = size_neg (suc a * b)
+size_product (negsuc a) (negsuc b) = refl
 
-size-floor : (x : ℤ) (b : ℕ) → nat_abs (floor x b) ≤ nat_abs x
-size-floor (pos a) b = div-le_self a b
-size-floor (negsuc a) b = suc-le-suc (div-le_self a b)
+size_floor : (x : ℤ) (b : ℕ) → nat_abs (floor x b) ≤ nat_abs x
+size_floor (pos a) b = div-le_self a b
+size_floor (negsuc a) b = suc-le-suc (div-le_self a b)
 
-pub size-quot : (x y : ℤ) → nat_abs (quot x y) ≤ nat_abs x
-size-quot x (pos b) = size-floor x b
-size-quot x (negsuc b) = omega (arith, size-floor (neg_ℤ x) (suc b), size-negated x)
+pub size_quot : (x y : ℤ) → nat_abs (quot x y) ≤ nat_abs x
+size_quot x (pos b) = size_floor x b
+size_quot x (negsuc b) = omega (arith, size_floor (neg_ℤ x) (suc b), size_negated x)
 
 -- ---- what fits
 fits : (z : ℤ) → nat_abs z < 9223372036854775808 → SFits w64 z
@@ -61,26 +61,26 @@ module _ (x y : ℤ) (fx : SFits w32 x) (fy : SFits w32 y) where
   right = nat_abs-le y fy.sfits
 
   pub sum_fits : SFits w64 (x +ℤ y)
-  sum_fits = fits (x +ℤ y) (omega (arith, size-sum x y, left, right))
+  sum_fits = fits (x +ℤ y) (omega (arith, size_sum x y, left, right))
 
-  pub difference-fits : SFits w64 (x -ℤ y)
-  difference-fits = fits (x -ℤ y) (omega (arith, size-sum x (neg_ℤ y), size-negated y, left, right))
+  pub difference_fits : SFits w64 (x -ℤ y)
+  difference_fits = fits (x -ℤ y) (omega (arith, size_sum x (neg_ℤ y), size_negated y, left, right))
 
-  pub product-fits : SFits w64 (x *ℤ y)
-  product-fits = fits (x *ℤ y) (omega (arith, size-product x y, mul-le-mul left right))
+  pub product_fits : SFits w64 (x *ℤ y)
+  product_fits = fits (x *ℤ y) (omega (arith, size_product x y, mul-le-mul left right))
 
   pub quot_fits : SFits w64 (quot x y)
-  quot_fits = fits (quot x y) (omega (arith, size-quot x y, left))
+  quot_fits = fits (quot x y) (omega (arith, size_quot x y, left))
 
   -- what the quotient takes away
-  size-taken : nat_abs (quot x y *ℤ y) ≤ 2147483648 * 2147483648
-  size-taken = rw (size-product (quot x y) y) (mul-le-mul (le_trans (size-quot x y) left) right)
+  size_taken : nat_abs (quot x y *ℤ y) ≤ 2147483648 * 2147483648
+  size_taken = rw (size_product (quot x y) y) (mul-le-mul (le_trans (size_quot x y) left) right)
 
   pub taken-fits : SFits w64 (quot x y *ℤ y)
-  taken-fits = fits (quot x y *ℤ y) (omega (arith, size-taken))
+  taken-fits = fits (quot x y *ℤ y) (omega (arith, size_taken))
 
   pub rest-fits : SFits w64 (rest x y)
-  rest-fits = fits (rest x y) (omega (arith, size-sum x (neg_ℤ (quot x y *ℤ y)), size-negated (quot x y *ℤ y), size-taken, left))
+  rest-fits = fits (rest x y) (omega (arith, size_sum x (neg_ℤ (quot x y *ℤ y)), size_negated (quot x y *ℤ y), size_taken, left))
 
 -- a number from the least to the greatest is a value
 pub inside-fits : (z : ℤ) → (le_z least z && le_z z greatest) ≡ true → SFits w32 z

@@ -1,5 +1,5 @@
 -- Document 01, "Values": what each operator gives. Numbers are exact integers here, and a result that is no value is refused.
--- Division is document 02's, "Two". `operatorOf` is the whole of it.
+-- Division is document 02's, "Two". `operator_of` is the whole of it.
 use Rattle.std.specs.Prelude.{ℕ, suc, ◌/◌, Bool, false, not, cond, ◌&&◌, ◌||◌, [], ◌∷◌, eqb, ℤ, pos, negsuc, neg_ℤ, ◌+ℤ◌, ◌-ℤ◌, ◌*ℤ◌, get_or}
 use Rattle.std.specs.Int.Signed.{lt_z, le_z}
 use Rattle.value.specs.declared.Value.{Value}
@@ -20,11 +20,11 @@ exactly z = cond (le_z least z && le_z z greatest) (Is (record { n = z })) (OutO
 abbrev pub sum_of : Value → Value → Computed
 sum_of x y = exactly (x.n +ℤ y.n)
 
-abbrev pub differenceOf : Value → Value → Computed
-differenceOf x y = exactly (x.n -ℤ y.n)
+abbrev pub difference_of : Value → Value → Computed
+difference_of x y = exactly (x.n -ℤ y.n)
 
-abbrev pub productOf : Value → Value → Computed
-productOf x y = exactly (x.n *ℤ y.n)
+abbrev pub product_of : Value → Value → Computed
+product_of x y = exactly (x.n *ℤ y.n)
 
 -- Division gives the greatest whole number not above the exact quotient: for -(a + 1) and b that is -(a / b + 1),
 abbrev pub floor : ℤ → ℕ → ℤ
@@ -42,68 +42,68 @@ rest x y = x -ℤ quot x y *ℤ y
 
 -- That the quotient is the greatest, and the remainder's sign, are theorems (`Dividing`). They say that q is not above the exact quotient of
 -- x and y if q times y is not above x, or not below x where y is below zero.
-abbrev pub notAbove : ℤ → ℤ → ℤ → Bool
-notAbove q x (pos b) = le_z (q *ℤ pos b) x
-notAbove q x (negsuc b) = le_z x (q *ℤ negsuc b)
+abbrev pub not_above : ℤ → ℤ → ℤ → Bool
+not_above q x (pos b) = le_z (q *ℤ pos b) x
+not_above q x (negsuc b) = le_z x (q *ℤ negsuc b)
 
 -- whether two numbers are equal, beside the library's `lt_z` (less) and `le_z` (at most)
-abbrev pub eqZ : ℤ → ℤ → Bool
-eqZ (pos a) (pos b) = eqb a b
-eqZ (pos a) (negsuc b) = false
-eqZ (negsuc a) (pos b) = false
-eqZ (negsuc a) (negsuc b) = eqb a b
+abbrev pub eq_z : ℤ → ℤ → Bool
+eq_z (pos a) (pos b) = eqb a b
+eq_z (pos a) (negsuc b) = false
+eq_z (negsuc a) (pos b) = false
+eq_z (negsuc a) (negsuc b) = eqb a b
 
 -- 14: divisor 0
 unfoldable pub quotient_of : Value → Value → Computed
-quotient_of x y = cond (eqZ y.n (pos 0)) DivisorZero (exactly (quot x.n y.n))
+quotient_of x y = cond (eq_z y.n (pos 0)) DivisorZero (exactly (quot x.n y.n))
 
-unfoldable pub remainderOf : Value → Value → Computed
-remainderOf x y = cond (eqZ y.n (pos 0)) DivisorZero (exactly (rest x.n y.n))
+unfoldable pub remainder_of : Value → Value → Computed
+remainder_of x y = cond (eq_z y.n (pos 0)) DivisorZero (exactly (rest x.n y.n))
 
 -- Equal, less, at most, and, or, not give 1 or 0;
 unfoldable pub truth : Bool → Value
 truth b = record { n = cond b (pos 1) (pos 0) }
 
 abbrev pub equal_of : Value → Value → Value
-equal_of x y = truth (eqZ x.n y.n)
+equal_of x y = truth (eq_z x.n y.n)
 
 abbrev pub less_of : Value → Value → Value
 less_of x y = truth (lt_z x.n y.n)
 
-abbrev pub atMostOf : Value → Value → Value
-atMostOf x y = truth (le_z x.n y.n)
+abbrev pub at_most_of : Value → Value → Value
+at_most_of x y = truth (le_z x.n y.n)
 
 -- any number but 0 is true.
-unfoldable pub isTrue : Value → Bool
-isTrue x = not (eqZ x.n (pos 0))
+unfoldable pub is_true : Value → Bool
+is_true x = not (eq_z x.n (pos 0))
 
-abbrev pub andOf : Value → Value → Value
-andOf x y = truth (isTrue x && isTrue y)
+abbrev pub and_of : Value → Value → Value
+and_of x y = truth (is_true x && is_true y)
 
 abbrev pub or_of : Value → Value → Value
-or_of x y = truth (isTrue x || isTrue y)
+or_of x y = truth (is_true x || is_true y)
 
-abbrev pub notOf : Value → Value
-notOf x = truth (not (isTrue x))
+abbrev pub not_of : Value → Value
+not_of x = truth (not (is_true x))
 
 -- Operators: 0 +, 1 -, 2 *, 3 /, 4 %, 5 equal, 6 less, 7 at most, 8 and, 9 or.
-unfoldable pub operatorOf : ℕ → Value → Value → Computed
-operatorOf op x y =
+unfoldable pub operator_of : ℕ → Value → Value → Computed
+operator_of op x y =
     get_or
     (sum_of x y
-    ∷ differenceOf x y
-    ∷ productOf x y
+    ∷ difference_of x y
+    ∷ product_of x y
     ∷ quotient_of x y
-    ∷ remainderOf x y
+    ∷ remainder_of x y
     ∷ Is (equal_of x y)
     ∷ Is (less_of x y)
-    ∷ Is (atMostOf x y)
-    ∷ Is (andOf x y)
+    ∷ Is (at_most_of x y)
+    ∷ Is (and_of x y)
     ∷ [])
     op
     (Is (or_of x y))
 
 -- `unfolding operating` opens all of the above, so that an operator on two numbers computes
 unfoldable pub operating : Unit {0}
-unfolding operatorOf quotient_of remainderOf exactly truth isTrue
+unfolding operator_of quotient_of remainder_of exactly truth is_true
 operating = tt

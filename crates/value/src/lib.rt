@@ -5,8 +5,8 @@ ghost use Rattle.std.specs.Prelude.{false, cond, ◌≡◌, ◌+◌, ◌≤◌, 
 ghost use Rattle.std.proofs.lemmas.List.Edits.{sets};
 ghost use Rattle.std.specs.Int.{w32};
 ghost use Rattle.std.proofs.Common.{SFits};
-ghost use Rattle.value.specs.Values.{exactly, sum_of, differenceOf, productOf, quotient_of, remainderOf, operatorOf, eqZ, floor, quot};
-ghost use Rattle.value.specs.Values.{truth, equal_of, less_of, atMostOf, isTrue, andOf, or_of, notOf};
+ghost use Rattle.value.specs.Values.{exactly, sum_of, difference_of, product_of, quotient_of, remainder_of, operator_of, eq_z, floor, quot};
+ghost use Rattle.value.specs.Values.{truth, equal_of, less_of, at_most_of, is_true, and_of, or_of, not_of};
 ghost use Rattle.value.specs.Bytes.{of_bits, bits_of, of_bytes, bytes_of, value_at};
 
 // A number from `LEAST` to `GREATEST`.
@@ -132,7 +132,7 @@ impl Value {
 
     // The quotient rounded down, where the divisor is not 0: x / y is -x / -y.
     fn quot(self, divisor: Value) -> i64
-        requires { eqZ divisor.n (pos 0) ≡ false }
+        requires { eq_z divisor.n (pos 0) ≡ false }
         ensures { result ≡ quot self.n divisor.n }
     {
         let below = divisor.wide() < 0;
@@ -163,13 +163,13 @@ impl Value {
     }
 
     pub fn difference(self, right: Value) -> Computed
-        ensures { result ≡ differenceOf self right }
+        ensures { result ≡ difference_of self right }
     {
         Value::exact(self.wide() - right.wide())
     }
 
     pub fn product(self, right: Value) -> Computed
-        ensures { result ≡ productOf self right }
+        ensures { result ≡ product_of self right }
     {
         Value::exact(self.wide() * right.wide())
     }
@@ -185,7 +185,7 @@ impl Value {
     }
 
     pub fn remainder(self, divisor: Value) -> Computed
-        ensures { result ≡ remainderOf self divisor }
+        ensures { result ≡ remainder_of self divisor }
     {
         let d = divisor.wide();
         if d == 0 {
@@ -207,13 +207,13 @@ impl Value {
     }
 
     pub fn at_most(self, right: Value) -> Value
-        ensures { result ≡ atMostOf self right }
+        ensures { result ≡ at_most_of self right }
     {
         Value::truth(self.wide() <= right.wide())
     }
 
     pub fn and(self, right: Value) -> Value
-        ensures { result ≡ andOf self right }
+        ensures { result ≡ and_of self right }
     {
         Value::truth(self.is_true() & right.is_true())
     }
@@ -225,14 +225,14 @@ impl Value {
     }
 
     pub fn not(self) -> Value
-        ensures { result ≡ notOf self }
+        ensures { result ≡ not_of self }
     {
         Value::truth(!self.is_true())
     }
 
     // Any number but 0 is true.
     pub fn is_true(self) -> bool
-        ensures { result ≡ isTrue self }
+        ensures { result ≡ is_true self }
     {
         self.wide() != 0
     }
@@ -247,7 +247,7 @@ impl Value {
 
 // Operator number op on a and b. A sheet has the numbers 0 to 9; those above are `or` too.
 pub fn apply(op: u8, a: Value, b: Value) -> Computed
-    ensures { result ≡ operatorOf op a b }
+    ensures { result ≡ operator_of op a b }
 {
     match op {
         0 => a.sum(b),

@@ -6,10 +6,10 @@ use mathlib.Core.List.{List}
 use lib.ListN.{length}
 use Rattle.basis.specs.declared.answer.Answer.{Answer}
 use Rattle.basis.specs.Answer.{word_of}
-use Rattle.basis.specs.Checks.{Check, allHold}
-use Rattle.basis.proofs.Checks.{all_hold, some-fails, goes_on, refuses}
-use Rattle.beltuqash.specs.Calls.{handOutChecks, answered, handOut}
-use Rattle.beltuqash.proofs.Checking.{hand-out-numbered, hand-out-holds, asks-as}
+use Rattle.basis.specs.Checks.{Check, all_hold}
+use Rattle.basis.proofs.Checks.{all_hold_lem, some-fails, goes_on, refuses}
+use Rattle.beltuqash.specs.Calls.{hand_out_checks, answered, hand_out}
+use Rattle.beltuqash.proofs.Checking.{hand_out_numbered, hand_out_holds, asks_as}
 use Rattle.beltuqash.proofs.beltuqash_hand_out.Statement.{statement}
 use Rattle.beltuqash.proofs.beltuqash_hand_out.Tie as tie
 
@@ -17,17 +17,17 @@ abbrev start_of : tie.After-judge-hand-out → tie.Start
 start_of c = c.before.before.before.before.before
 
 abbrev checks-of : tie.After-judge-hand-out → List Check
-checks-of c = let a = (start_of c).args in handOutChecks a.sheet.now a.store.now a.reader a.request.now (length a.out.now)
+checks-of c = let a = (start_of c).args in hand_out_checks a.sheet.now a.store.now a.reader a.request.now (length a.out.now)
 
-holds : (c : tie.Else1) → allHold (checks-of c.before.before) ≡ true
+holds : (c : tie.Else1) → all_hold (checks-of c.before.before) ≡ true
 holds c =
     let judged = c.before.before in
     let a = (start_of judged).args in
-    all_hold (checks-of judged) (hand-out-numbered a.sheet.now a.store.now a.reader a.request.now (length a.out.now))
+    all_hold_lem (checks-of judged) (hand_out_numbered a.sheet.now a.store.now a.reader a.request.now (length a.out.now))
     (ap (λ (x : Answer). x.number) (sym judged.judge-hand-out.ensures) ∙ c.if1.false)
 
 returns : tie.Need-returns
-unfolding handOut
+unfolding hand_out
 returns c =
     let then = c.before in
     let judged = then.before.before in
@@ -40,14 +40,14 @@ give-requires c κs =
     let levels = c.before in
     let else = levels.before in
     let a = (start_of else.before.before).args in
-    let (requested, room, none) = hand-out-holds a.sheet.now a.store.now a.reader a.request.now (length a.out.now) (holds else) in
-    rw levels.levels.ensures (record { asks-as = asks-as requested; none-refuses = none; room = room })
+    let (requested, room, none) = hand_out_holds a.sheet.now a.store.now a.reader a.request.now (length a.out.now) (holds else) in
+    rw levels.levels.ensures (record { asks_as = asks_as requested; none-refuses = none; room = room })
 
 same_length : tie.Need-same-length
 same_length c = c.before.before.before.before.give.auto.1.1.1.1.0
 
 returns-2 : tie.Need-returns-2
-unfolding handOut answered
+unfolding hand_out answered
 returns-2 c =
     let gave = c.before.before.before.before in
     let levels = gave.before.before in

@@ -6,10 +6,10 @@ use mathlib.Core.List.{List}
 use lib.ListN.{length}
 use Rattle.basis.specs.declared.answer.Answer.{Answer}
 use Rattle.basis.specs.Answer.{word_of}
-use Rattle.basis.specs.Checks.{Check, allHold}
-use Rattle.basis.proofs.Checks.{all_hold, some-fails, goes_on, refuses}
-use Rattle.beltuqash.specs.Calls.{runChecks, run}
-use Rattle.beltuqash.proofs.Checking.{run-numbered, run_holds}
+use Rattle.basis.specs.Checks.{Check, all_hold}
+use Rattle.basis.proofs.Checks.{all_hold_lem, some-fails, goes_on, refuses}
+use Rattle.beltuqash.specs.Calls.{run_checks, run}
+use Rattle.beltuqash.proofs.Checking.{run_numbered, run_holds}
 use Rattle.beltuqash.proofs.beltuqash_run.Statement.{statement}
 use Rattle.beltuqash.proofs.beltuqash_run.Tie as tie
 
@@ -17,13 +17,13 @@ abbrev start_of : tie.After-judge-run → tie.Start
 start_of c = c.before.before.before.before
 
 abbrev checks-of : tie.After-judge-run → List Check
-checks-of c = let a = (start_of c).args in runChecks a.sheet.now a.store.now a.mode a.fuel (length a.out.now)
+checks-of c = let a = (start_of c).args in run_checks a.sheet.now a.store.now a.mode a.fuel (length a.out.now)
 
-holds : (c : tie.Else1) → allHold (checks-of c.before.before) ≡ true
+holds : (c : tie.Else1) → all_hold (checks-of c.before.before) ≡ true
 holds c =
     let judged = c.before.before in
     let a = (start_of judged).args in
-    all_hold (checks-of judged) (run-numbered a.sheet.now a.store.now a.mode a.fuel (length a.out.now))
+    all_hold_lem (checks-of judged) (run_numbered a.sheet.now a.store.now a.mode a.fuel (length a.out.now))
     (ap (λ (x : Answer). x.number) (sym judged.judge-run.ensures) ∙ c.if1.false)
 
 returns : tie.Need-returns

@@ -3,31 +3,31 @@ use Rattle.std.specs.Prelude.{ℕ, ◌≤◌, ◌<◌, ◌≡◌, true, List}
 use Rattle.basis.specs.declared.answer.Answer.{Answer}
 use Rattle.basis.specs.Answer.{Outcome}
 use Rattle.levels.specs.Levels.{count}
-use Rattle.sections.specs.Sections.{levelsOf}
-use Rattle.sheet.specs.Load.{fieldCount}
+use Rattle.sections.specs.Sections.{levels_of}
+use Rattle.sheet.specs.Load.{field_count}
 use Rattle.sheet.specs.Inside.Loaded.{Loaded}
 use Rattle.store.specs.Marks.{Mode, permissive, mode_of}
-use Rattle.store.specs.Stores.{storeLength, storeFits, marksRight}
-use Rattle.handout.specs.Requests.{requestRight}
+use Rattle.store.specs.Stores.{store_length, store_fits, marks_right}
+use Rattle.handout.specs.Requests.{request_right}
 
 -- a sheet that passes, and a store that fits it with right marks
 pub record Taken (sheet store : List ℕ) (mode : Mode) : Type 0 where
   pub loaded : Loaded sheet
-  pub fits : storeFits (fieldCount sheet) store ≡ true
-  pub marks : marksRight mode (count (levelsOf sheet)) (fieldCount sheet) store ≡ true
+  pub fits : store_fits (field_count sheet) store ≡ true
+  pub marks : marks_right mode (count (levels_of sheet)) (field_count sheet) store ≡ true
 
 -- a run of them, with room for the final store
 pub record Given (sheet store : List ℕ) (mode fuel room : ℕ) : Type 0 where
   pub taken : Taken sheet store (mode_of mode)
-  pub mode-known : mode ≤ 1
+  pub mode_known : mode ≤ 1
   pub few : fuel ≤ 1000000
-  pub room-is : storeLength (fieldCount sheet) ≤ room
+  pub room-is : store_length (field_count sheet) ≤ room
 
 -- a reader's right request of them
 pub record Requested (sheet store : List ℕ) (reader : ℕ) (request : List ℕ) : Type 0 where
   pub taken : Taken sheet store permissive
-  pub reader-known : reader < count (levelsOf sheet)
-  pub request-right : requestRight (fieldCount sheet) request ≡ true
+  pub reader-known : reader < count (levels_of sheet)
+  pub right_request : request_right (field_count sheet) request ≡ true
 
 -- an answer and the output afterwards are an outcome
 abbrev pub Comes : Outcome → Answer → List ℕ → Type 0

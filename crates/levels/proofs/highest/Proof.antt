@@ -4,19 +4,19 @@ use Prim.Native.Nat.{◌-◌}
 use native.Mathlib.Omega.{arith}
 use mathlib.Core.Path.{sym, ◌∙◌}
 use mathlib.Core.Logic.{⊎_elim}
-use Rattle.levels.specs.Levels.{count, highestOf}
-use Rattle.levels.proofs.Scan.{Found, highest-first, highest-next}
+use Rattle.levels.specs.Levels.{count, highest_of}
+use Rattle.levels.proofs.Scan.{Found, highest_first, highest_next}
 use Rattle.levels.proofs.highest.Statement.{statement}
 use Rattle.levels.proofs.highest.Tie as tie
 
 abbrev invariant-loop : tie.invariant-loop
-invariant-loop rows n found₀ k₀ found k = Found rows (highestOf rows) k found
+invariant-loop rows n found₀ k₀ found k = Found rows (highest_of rows) k found
 
 abbrev decreases-loop : tie.decreases-loop
 decreases-loop rows n found₀ k₀ found k = count rows - k
 
 loop-holds : tie.Need-loop-init invariant-loop decreases-loop
-loop-holds c = highest-first c.before.args.rows.now c.before.requires
+loop-holds c = highest_first c.before.args.rows.now c.before.requires
 
 at-or-below-requires : tie.Need-at-or-below-requires invariant-loop decreases-loop
 at-or-below-requires c κs = search rules
@@ -32,7 +32,7 @@ loop-again c =
     let loop = c.before.before.before in
     let start = loop.before.before in
     let inside = c.before.before.loop-test.true in
-    let step = highest-next start.args.rows.now start.requires loop.loop.k loop.loop.found inside loop.loop.invariant in
+    let step = highest_next start.args.rows.now start.requires loop.loop.k loop.loop.found inside loop.loop.invariant in
     let tested = sym c.before.at-or-below.ensures in
     ⊎_elim (λ w. rw w.1 (step _ (tested ∙ w.0.taken))) (λ w. rw w.1 (step _ (tested ∙ w.0.left))) c.if1.branch
 

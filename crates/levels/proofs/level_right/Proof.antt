@@ -8,12 +8,12 @@ use mathlib.Core.Path.{◌≡◌, sym, ◌∙◌}
 use mathlib.Core.Bool.{true}
 use Rattle.basis.proofs.Tests.{all_of, all-fails}
 use Rattle.levels.specs.Levels.{count}
-use Rattle.levels.specs.Inside.Judging.{pairRight, levelRight}
+use Rattle.levels.specs.Inside.Judging.{pair_right, level_right}
 use Rattle.levels.proofs.level_right.Statement.{statement}
 use Rattle.levels.proofs.level_right.Tie as tie
 
 abbrev invariant-loop : tie.invariant-loop
-invariant-loop rows i n j₀ j = (l : ℕ) → l < j → pairRight rows i l ≡ true
+invariant-loop rows i n j₀ j = (l : ℕ) → l < j → pair_right rows i l ≡ true
 
 abbrev decreases-loop : tie.decreases-loop
 decreases-loop rows i n j₀ j = count rows - j
@@ -25,7 +25,7 @@ pair-right-requires : tie.Need-pair-right-requires invariant-loop decreases-loop
 pair-right-requires c κs = search rules
 
 returns : tie.Need-returns invariant-loop decreases-loop
-unfolding levelRight
+unfolding level_right
 returns c = sym (all-fails _ _ _ c.before.before.loop-test.true (sym c.before.pair-right.ensures ∙ not-true _ c.if1.true))
 
 add-j : tie.Need-overflow-add-j invariant-loop decreases-loop
@@ -38,7 +38,7 @@ loop-again : tie.Need-loop-preserved invariant-loop decreases-loop
 loop-again c = below_more _ _ c.before.before.before.loop.invariant (sym c.before.pair-right.ensures ∙ not-false _ c.if1.false)
 
 returns-2 : tie.Need-returns-2 invariant-loop decreases-loop
-unfolding levelRight
+unfolding level_right
 returns-2 c = sym (all_of _ _ (λ l h. c.before.loop.invariant l (omega arith)))
 
 pub level-right-spec : {M : Type 1} → statement M

@@ -3,8 +3,8 @@ use borrow.Author.Rules.{rules}
 use native.Mathlib.Omega.{arith}
 use mathlib.Core.Path.{sym, ◌∙◌}
 use Rattle.levels.proofs.Facts.{facts}
-use Rattle.levels.proofs.Bounds.{lowest-is}
-use Rattle.levels.proofs.Rows.{lowest-row, with_row}
+use Rattle.levels.proofs.Bounds.{lowest_is}
+use Rattle.levels.proofs.Rows.{lowest_row, with_row}
 use Rattle.levels.proofs.lowest.Statement.{statement}
 use Rattle.levels.proofs.lowest.Tie as tie
 
@@ -20,8 +20,8 @@ returns : tie.Need-returns
 returns c =
     let start = c.before.before.before in
     let s = start.args.rows.now in
-    let row = lowest-row s start.requires ∙ sym c.before.full.ensures in
-    with_row s start.requires _ _ _ c.with_row.ensures (lowest-is s start.requires).level row
+    let row = lowest_row s start.requires ∙ sym c.before.full.ensures in
+    with_row s start.requires _ _ _ c.with_row.ensures (lowest_is s start.requires).level row
 
 pub lowest-spec : {M : Type 1} → statement M
 lowest-spec = tie.close (tie.spec full-requires with-row-requires returns)

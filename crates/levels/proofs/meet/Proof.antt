@@ -4,7 +4,7 @@ use Prim.Native.Nat.{◌-◌}
 use native.Mathlib.Omega.{arith}
 use mathlib.Core.Logic.{⊎_elim}
 use Rattle.levels.specs.Levels.{count, meet_of}
-use Rattle.levels.proofs.Scan.{Found, meet-first, meet-next}
+use Rattle.levels.proofs.Scan.{Found, meet-first, meet_next}
 use Rattle.levels.proofs.meet.Statement.{statement}
 use Rattle.levels.proofs.meet.Tie as tie
 
@@ -43,7 +43,7 @@ loop-again c =
     let loop = turn.before.before in
     let start = loop.before.before.before in
     let step =
-    meet-next start.args.rows.now start.requires.rows _ _ start.requires.first start.requires.second
+    meet_next start.args.rows.now start.requires.rows _ _ start.requires.first start.requires.second
     loop.loop.k loop.loop.found turn.before.loop-test.true loop.loop.invariant in
     let found = turn.at-or-below.ensures in
     let first = c.before.before.at-or-below2.ensures in

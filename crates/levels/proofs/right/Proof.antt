@@ -8,14 +8,14 @@ use mathlib.Core.Path.{◌≡◌, sym, ◌∙◌}
 use mathlib.Core.Bool.{true, true≢false}
 use Rattle.basis.proofs.Tests.{is_false}
 use Rattle.levels.specs.Levels.{count, right}
-use Rattle.levels.specs.Inside.Judging.{levelRight}
+use Rattle.levels.specs.Inside.Judging.{level_right}
 use Rattle.levels.proofs.Facts.{facts}
 use Rattle.levels.proofs.Judging.{level-right, judged}
 use Rattle.levels.proofs.right.Statement.{statement}
 use Rattle.levels.proofs.right.Tie as tie
 
 abbrev invariant-loop : tie.invariant-loop
-invariant-loop rows n i₀ i = (l : ℕ) → l < i → levelRight rows l ≡ true
+invariant-loop rows n i₀ i = (l : ℕ) → l < i → level_right rows l ≡ true
 
 abbrev decreases-loop : tie.decreases-loop
 decreases-loop rows n i₀ i = count rows - i

@@ -1,7 +1,7 @@
 -- Each way out gives a level that has the intersection of both rows, or the search's answer.
 use borrow.Author.Rules.{rules}
 use mathlib.Core.Path.{sym}
-use Rattle.levels.proofs.Rows.{has-row}
+use Rattle.levels.proofs.Rows.{has_row}
 use Rattle.levels.proofs.with_common_row.Statement.{statement}
 use Rattle.levels.proofs.with_common_row.Tie as tie
 
@@ -15,13 +15,13 @@ returns : tie.Need-returns
 returns c =
     let read = c.before in
     let start = read.before.before.before in
-    has-row start.args.rows.now _ _ start.requires.1 (sym (rw (read.before.row.ensures, read.row2.ensures) at c.if1.true))
+    has_row start.args.rows.now _ _ start.requires.1 (sym (rw (read.before.row.ensures, read.row2.ensures) at c.if1.true))
 
 returns-2 : tie.Need-returns-2
 returns-2 c =
     let read = c.before.before in
     let start = read.before.before.before in
-    has-row start.args.rows.now _ _ start.requires.0 (sym (rw (read.before.row.ensures, read.row2.ensures) at c.if2.true))
+    has_row start.args.rows.now _ _ start.requires.0 (sym (rw (read.before.row.ensures, read.row2.ensures) at c.if2.true))
 
 with-row-requires : tie.Need-with-row-requires
 with-row-requires c κs = search rules

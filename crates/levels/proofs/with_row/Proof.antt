@@ -7,7 +7,7 @@ use native.Mathlib.Omega.{arith}
 use mathlib.Core.Path.{◌≡◌, sym, ◌∙◌}
 use Rattle.basis.proofs.Tests.{is_false}
 use Rattle.levels.specs.Levels.{count, row_at}
-use Rattle.levels.proofs.Rows.{row-at, has-row}
+use Rattle.levels.proofs.Rows.{row_at_lem, has_row}
 use Rattle.levels.proofs.with_row.Statement.{statement}
 use Rattle.levels.proofs.with_row.Tie as tie
 
@@ -27,7 +27,7 @@ returns : tie.Need-returns invariant-loop decreases-loop
 returns c =
     let loop = c.before.before.before in
     let s = loop.before.before.args.rows.now in
-    has-row s loop.loop.k _ c.before.before.loop-test.true (sym c.before.row.ensures ∙ c.if1.true)
+    has_row s loop.loop.k _ c.before.before.loop-test.true (sym c.before.row.ensures ∙ c.if1.true)
 
 add-k : tie.Need-overflow-add-k invariant-loop decreases-loop
 add-k c = search rules
@@ -43,7 +43,7 @@ returns-2 c =
     let start = c.before.before.before in
     let s = start.args.rows.now in
     let wanted = start.args.wanted in
-    let none = is_false _ (λ h. let (k, d, e) = row-at s wanted h in c.before.loop.invariant k (omega arith) e) in
+    let none = is_false _ (λ h. let (k, d, e) = row_at_lem s wanted h in c.before.loop.invariant k (omega arith) e) in
     record { found = le-ltb (count s) (count s) (omega arith) ∙ sym none; is = λ h. absurd (omega arith) }
 
 pub with-row-spec : {M : Type 1} → statement M

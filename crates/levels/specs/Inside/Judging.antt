@@ -8,8 +8,8 @@ use Rattle.levels.specs.Levels.{count, row_at, below}
 
 module _ (s : List ℕ) where
   -- the levels above both i and j
-  abbrev pub aboveBoth : ℕ → ℕ → ℕ
-  aboveBoth i j = bit_and (row_at s i) (row_at s j)
+  abbrev pub above_both : ℕ → ℕ → ℕ
+  above_both i j = bit_and (row_at s i) (row_at s j)
 
   -- some level has this row
   unfoldable pub is_row : ℕ → Bool
@@ -22,10 +22,10 @@ module _ (s : List ℕ) where
 
   -- i lies at or below j exactly if row j lies within row i; levels with one row are one; some level's row is the intersection of both, asked
   -- only where j is not the lower number
-  unfoldable pub pairRight : ℕ → ℕ → Bool
-  pairRight i j =
-      beq (below s i j) (eqb (aboveBoth i j) (row_at s j)) && (not (eqb (row_at s i) (row_at s j)) || eqb i j) && (ltb j i || is_row (aboveBoth i j))
+  unfoldable pub pair_right : ℕ → ℕ → Bool
+  pair_right i j =
+      beq (below s i j) (eqb (above_both i j) (row_at s j)) && (not (eqb (row_at s i) (row_at s j)) || eqb i j) && (ltb j i || is_row (above_both i j))
 
   -- level i makes a right pair with each level
-  unfoldable pub levelRight : ℕ → Bool
-  levelRight i = all (count s) (pairRight i)
+  unfoldable pub level_right : ℕ → Bool
+  level_right i = all (count s) (pair_right i)

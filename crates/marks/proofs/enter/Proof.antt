@@ -3,29 +3,29 @@ use borrow.Author.Rules.{rules}
 use Prim.Native.Nat.{ℕ}
 use mathlib.Core.Path.{sym, ◌∙◌}
 use mathlib.Core.List.{List, map}
-use Rattle.marks.specs.Inside.Parts.{rowsIn}
-use Rattle.marks.specs.Inside.Words.{runIn, contextIn}
-use Rattle.marks.specs.Inside.Meanings.{styleIn, meaning}
+use Rattle.marks.specs.Inside.Parts.{rows_in}
+use Rattle.marks.specs.Inside.Words.{run_in, context_in}
+use Rattle.marks.specs.Inside.Meanings.{style_in, meaning}
 use Rattle.marks.proofs.Marking.{level-mark}
-use Rattle.marks.proofs.LevelMarks.{enter-same, enter-partial, enter-whole}
+use Rattle.marks.proofs.LevelMarks.{enter-same, enter_partial, enter-whole}
 use Rattle.marks.proofs.enter.Statement.{statement}
 use Rattle.marks.proofs.enter.Tie as tie
 
 abbrev rows_of : tie.Start → List ℕ
-rows_of c = rowsIn (map (λ x. x.now) c.args.parts.now)
+rows_of c = rows_in (map (λ x. x.now) c.args.parts.now)
 
 abbrev run_of : tie.Start → ℕ
-run_of c = runIn c.args.task
+run_of c = run_in c.args.task
 
 abbrev context-of : tie.Start → ℕ
-context-of c = contextIn c.args.task
+context-of c = context_in c.args.task
 
 returns : tie.Need-returns
 unfolding meaning
 returns c =
     let start = c.before.before in
     let p = start.requires in
-    enter-same (rows_of start) (styleIn (run_of start)) (run_of start) start.args.n (context-of start) start.args.m p.askable.order p.context-known (c.if1.true ∙ c.before.context-in.ensures)
+    enter-same (rows_of start) (style_in (run_of start)) (run_of start) start.args.n (context-of start) start.args.m p.askable.order p.context-known (c.if1.true ∙ c.before.context-in.ensures)
 
 returns-2 : tie.Need-returns-2
 unfolding meaning
@@ -34,7 +34,7 @@ returns-2 c =
     let asked = then.before in
     let start = asked.before.before.before in
     let p = start.requires in
-    enter-partial (rows_of start) (styleIn (run_of start)) (run_of start) start.args.n (context-of start) start.args.m p.askable.order p.context-known (sym asked.is-partial.ensures ∙ then.if2.true) c.stop.ensures
+    enter_partial (rows_of start) (style_in (run_of start)) (run_of start) start.args.n (context-of start) start.args.m p.askable.order p.context-known (sym asked.is-partial.ensures ∙ then.if2.true) c.stop.ensures
 
 join-requires : tie.Need-join-requires
 unfolding meaning
@@ -53,7 +53,7 @@ returns-3 c =
     let context = asked.before.before in
     let start = context.before in
     let p = start.requires in
-    enter-whole (rows_of start) (styleIn (run_of start)) (run_of start) start.args.n (context-of start) start.args.m p.askable.order p.context-known (sym asked.is-partial.ensures ∙ else.if2.false) (rw (rows.rows_in.ensures, context.context-in.ensures) at c.join.ensures)
+    enter-whole (rows_of start) (style_in (run_of start)) (run_of start) start.args.n (context-of start) start.args.m p.askable.order p.context-known (sym asked.is-partial.ensures ∙ else.if2.false) (rw (rows.rows_in.ensures, context.context-in.ensures) at c.join.ensures)
 
 pub enter_spec : {M : Type 1} → statement M
 enter_spec =

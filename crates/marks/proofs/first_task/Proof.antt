@@ -4,7 +4,7 @@ use Prim.Native.Nat.{◌≤◌, ◌<◌}
 use native.Mathlib.Omega.{arith}
 use mathlib.Core.Path.{ap, ◌∙◌}
 use Rattle.levels.proofs.Facts.{facts}
-use Rattle.marks.specs.Inside.Meanings.{styleIn, constantIn, sealIn}
+use Rattle.marks.specs.Inside.Meanings.{style_in, constant_in, seal_in}
 use Rattle.marks.proofs.first_task.Statement.{statement}
 use Rattle.marks.proofs.first_task.Tie as tie
 
@@ -36,11 +36,11 @@ returns c =
     let is = c.task.ensures.0 in
     let lowest = highest.before.lowest.ensures.0 in
     record {
-      style = ap styleIn is ∙ made.style-is;
+      style = ap style_in is ∙ made.style-is;
       level-run = record {
         order = start.requires.0;
-        constant = ap constantIn is ∙ made.constant-is ∙ lowest;
-        seal = ap sealIn is ∙ made.seal-is ∙ highest.highest.ensures.0;
+        constant = ap constant_in is ∙ made.constant-is ∙ lowest;
+        seal = ap seal_in is ∙ made.seal-is ∙ highest.highest.ensures.0;
       };
       context = c.task.ensures.1 ∙ lowest;
     }

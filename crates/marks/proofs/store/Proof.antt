@@ -6,23 +6,23 @@ use mathlib.Core.Logic.{⊎_elim}
 use mathlib.Core.List.{List, map}
 use Prim.Native.Nat.{ℕ}
 use Rattle.levels.specs.Lattice.{lattice}
-use Rattle.store.specs.Marks.{levelOf, mark_of}
-use Rattle.marks.specs.Inside.Parts.{rowsIn}
-use Rattle.marks.specs.Inside.Words.{runIn, contextIn}
-use Rattle.marks.specs.Inside.Meanings.{styleIn, Over, meaning}
+use Rattle.store.specs.Marks.{level_of, mark_of}
+use Rattle.marks.specs.Inside.Parts.{rows_in}
+use Rattle.marks.specs.Inside.Words.{run_in, context_in}
+use Rattle.marks.specs.Inside.Meanings.{style_in, Over, meaning}
 use Rattle.marks.proofs.Marking.{level-mark}
-use Rattle.marks.proofs.LevelMarks.{same-below, store_below, store_kept, store-strict, store-lowered}
+use Rattle.marks.proofs.LevelMarks.{same-below, store_below, store_kept, store-strict, store_lowered}
 use Rattle.marks.proofs.store.Statement.{statement}
 use Rattle.marks.proofs.store.Tie as tie
 
 abbrev rows_of : tie.Start → List ℕ
-rows_of c = rowsIn (map (λ x. x.now) c.args.parts.now)
+rows_of c = rows_in (map (λ x. x.now) c.args.parts.now)
 
 abbrev run_of : tie.Start → ℕ
-run_of c = runIn c.args.task
+run_of c = run_in c.args.task
 
 abbrev context-of : tie.Start → ℕ
-context-of c = contextIn c.args.task
+context-of c = context_in c.args.task
 
 over : (c : tie.After-context-in) →
     let start = c.before.before in
@@ -34,7 +34,7 @@ over c =
 
 order_is : (c : tie.After-at-or-below) →
     let start = c.before.before.before.before in
-    (lattice (rowsIn (map (λ x. x.now) start.args.parts.now))).le (contextIn start.args.task) (levelOf (mark_of start.args.old)) ≡ c.at-or-below.result
+    (lattice (rows_in (map (λ x. x.now) start.args.parts.now))).le (context_in start.args.task) (level_of (mark_of start.args.old)) ≡ c.at-or-below.result
 order_is c =
     let context = c.before.before in
     sym (rw (context.before.rows_in.ensures, context.context-in.ensures) at c.at-or-below.ensures)
@@ -42,19 +42,19 @@ order_is c =
 -- the context is the field's own mark, or lies at or below its level by the rows
 below : (c : tie.Joined1) →
     let start = c.before.before.before in
-    (lattice (rowsIn (map (λ x. x.now) start.args.parts.now))).le (contextIn start.args.task) (levelOf (mark_of start.args.old)) ≡ true
+    (lattice (rows_in (map (λ x. x.now) start.args.parts.now))).le (context_in start.args.task) (level_of (mark_of start.args.old)) ≡ true
 unfolding meaning
 below c =
     let context = c.before in
     let start = context.before.before in
     let p = start.requires in
     ⊎_elim
-    (λ w. same-below (rows_of start) (styleIn (run_of start)) (run_of start) start.args.n (context-of start) start.args.m p.askable.order p.context-known start.args.old (w.taken ∙ context.context-in.ensures))
+    (λ w. same-below (rows_of start) (style_in (run_of start)) (run_of start) start.args.n (context-of start) start.args.m p.askable.order p.context-known start.args.old (w.taken ∙ context.context-in.ensures))
     (λ w. order_is (record { before = record { before = context; if1 = w.0 }; at-or-below = w.1 }) ∙ w.2.taken)
     c.if1.branch
 
-style-is : (c : tie.After-style-in) → c.style-in.result ≡ styleIn (runIn c.before.before.before.before.before.before.before.args.task)
-style-is c = c.style-in.ensures ∙ ap styleIn c.before.run_in.ensures
+style-is : (c : tie.After-style-in) → c.style-in.result ≡ style_in (run_in c.before.before.before.before.before.before.before.args.task)
+style-is c = c.style-in.ensures ∙ ap style_in c.before.run_in.ensures
 
 at-or-below-requires : tie.Need-at-or-below-requires
 at-or-below-requires c κs = over c.before
@@ -64,7 +64,7 @@ unfolding meaning
 returns c =
     let start = c.before.before.before.before in
     let p = start.requires in
-    store_kept (rows_of start) (styleIn (run_of start)) (run_of start) start.args.n (context-of start) start.args.m p.askable.order p.context-known start.args.old
+    store_kept (rows_of start) (style_in (run_of start)) (run_of start) start.args.n (context-of start) start.args.m p.askable.order p.context-known start.args.old
     (below c.before) c.if3.true p.mark
 
 join-requires : tie.Need-join-requires
@@ -81,7 +81,7 @@ returns-2 c =
     let context = c.before.before.before in
     let start = context.before.before in
     let p = start.requires in
-    store_below (rows_of start) (styleIn (run_of start)) (run_of start) start.args.n (context-of start) start.args.m p.askable.order p.context-known start.args.old
+    store_below (rows_of start) (style_in (run_of start)) (run_of start) start.args.n (context-of start) start.args.m p.askable.order p.context-known start.args.old
     (below c.before.before)
     (rw (context.before.rows_in.ensures, context.context-in.ensures) at c.join.ensures)
 
@@ -92,7 +92,7 @@ returns-3 c =
     let else = then.before.before.before in
     let start = else.before.before.before.before.before in
     let p = start.requires in
-    store-strict (rows_of start) (styleIn (run_of start)) (run_of start) start.args.n (context-of start) start.args.m p.askable.order p.context-known start.args.old
+    store-strict (rows_of start) (style_in (run_of start)) (run_of start) start.args.n (context-of start) start.args.m p.askable.order p.context-known start.args.old
     (order_is else.before ∙ else.if2.false) (sym (style-is then.before) ∙ then.if4.true) c.stop.ensures
 
 lowered-requires : tie.Need-lowered-requires
@@ -106,7 +106,7 @@ returns-4 c =
     let context = else.before.before.before in
     let start = context.before.before in
     let p = start.requires in
-    store-lowered (rows_of start) (styleIn (run_of start)) (run_of start) start.args.n (context-of start) start.args.m p.askable.order p.context-known start.args.old
+    store_lowered (rows_of start) (style_in (run_of start)) (run_of start) start.args.n (context-of start) start.args.m p.askable.order p.context-known start.args.old
     (order_is else.before ∙ else.if2.false)
     (λ strict. last.if4.false (style-is last.before ∙ strict))
     (rw (context.before.rows_in.ensures, context.context-in.ensures) at c.lowered.ensures)

@@ -14,93 +14,93 @@ use Rattle.std.specs.Prelude.{ℕ, ◌-◌, ◌/◌, ◌%◌, ◌≤◌, ◌<◌
 use Rattle.basis.specs.Numbers as numbers
 use Rattle.value.specs.Bytes.{of_bits}
 use Rattle.value.specs.declared.Value.{Value}
-use Rattle.rules.specs.Ends.{Why, outOfRange, divisorZero, notBelow, partialTest, Result, gives, stops}
+use Rattle.rules.specs.Ends.{Why, out_of_range, divisor_zero, not_below, partial_test, Result, gives, stops}
 use Rattle.store.specs.Cells.{Cell, cell, Store}
 
 -- ── the layouts ─────────────────────────────────────────────────────────────────────────────
 
 -- where a word's upper half begins, a stop's number, and the stops themselves
-abbrev pub upperHalf : ℕ
-upperHalf = 4294967296
+abbrev pub upper_half : ℕ
+upper_half = 4294967296
 
-abbrev pub numberFrom : ℕ
-numberFrom = 72057594037927936
+abbrev pub number_from : ℕ
+number_from = 72057594037927936
 
-abbrev pub stopFrom : ℕ
-stopFrom = 9223372036854775808
+abbrev pub stop_from : ℕ
+stop_from = 9223372036854775808
 
 -- so many places and numbers there is room for
-abbrev pub placeRoom : ℕ
-placeRoom = 65536
+abbrev pub place_room : ℕ
+place_room = 65536
 
-abbrev pub numberRoom : ℕ
-numberRoom = 128
+abbrev pub number_room : ℕ
+number_room = 128
 
 -- a number that fits a half, an upper half below a stop's, and a place
 abbrev pub Half : ℕ → Type 0
-Half n = n < upperHalf
+Half n = n < upper_half
 
 abbrev pub Below : ℕ → Type 0
 Below n = n < 2147483648
 
 abbrev pub Place : ℕ → Type 0
-Place n = n < placeRoom
+Place n = n < place_room
 
 -- ── a value with its mark ───────────────────────────────────────────────────────────────────
 
-abbrev pub valueIn : ℕ → Value
-valueIn word = record { n = of_bits (word % upperHalf) }
+abbrev pub value_in : ℕ → Value
+value_in word = record { n = of_bits (word % upper_half) }
 
-abbrev pub markIn : ℕ → ℕ
-markIn word = word / upperHalf
+abbrev pub mark_in : ℕ → ℕ
+mark_in word = word / upper_half
 
 -- by what marks' numbers stand for
 module _ {A : Type 0} (of : ℕ → A) where
-  abbrev pub cellIn : ℕ → Cell A
-  cellIn word = cell (valueIn word) (of (markIn word))
+  abbrev pub cell_in : ℕ → Cell A
+  cell_in word = cell (value_in word) (of (mark_in word))
 
   -- a work store has such a word for each field
-  unfoldable pub workAt : List ℕ → ℕ → Cell A
-  workAt work i = cellIn (get_or work i 0)
+  unfoldable pub work_at : List ℕ → ℕ → Cell A
+  work_at work i = cell_in (get_or work i 0)
 
-  abbrev pub workOf : List ℕ → Store A
-  workOf work = workAt work
+  abbrev pub work_of : List ℕ → Store A
+  work_of work = work_at work
 
 -- a word made of a value and a mark's number
 pub record Word (v : Value) (mark r : ℕ) : Type 0 where
-  pub value : valueIn r ≡ v
-  pub mark-is : markIn r ≡ mark
+  pub value : value_in r ≡ v
+  pub mark-is : mark_in r ≡ mark
 
 -- ── a stop ──────────────────────────────────────────────────────────────────────────────────
 
 abbrev pub Goes : ℕ → Type 0
-Goes word = word < stopFrom
+Goes word = word < stop_from
 
 abbrev pub Stops : ℕ → Type 0
-Stops word = stopFrom ≤ word
+Stops word = stop_from ≤ word
 
-abbrev pub leftIn : ℕ → ℕ
-leftIn word = word % upperHalf
+abbrev pub left_in : ℕ → ℕ
+left_in word = word % upper_half
 
 abbrev pub place_in : ℕ → ℕ
-place_in word = word / upperHalf % placeRoom
+place_in word = word / upper_half % place_room
 
 abbrev pub number_in : ℕ → ℕ
-number_in word = word / numberFrom % numberRoom
+number_in word = word / number_from % number_room
 
-unfoldable pub whyOf : ℕ → Why
-whyOf number = get_or (outOfRange ∷ divisorZero ∷ notBelow ∷ []) (number - numbers.outOfRange) partialTest
+unfoldable pub why_of : ℕ → Why
+why_of number = get_or (out_of_range ∷ divisor_zero ∷ not_below ∷ []) (number - numbers.out_of_range) partial_test
 
 -- a stop's word: why, where, and the fuel left
 pub record Stop (number place left r : ℕ) : Type 0 where
   pub stops : Stops r
   pub number_is : number_in r ≡ number
   pub place_is : place_in r ≡ place
-  pub left_is : leftIn r ≡ left
+  pub left_is : left_in r ≡ left
 
 -- a stop that a run meets once its unit is spent
 abbrev pub Met : ℕ → Type 0
-Met number = (numbers.outOfRange ≤ number) × (number ≤ numbers.partialTest)
+Met number = (numbers.out_of_range ≤ number) × (number ≤ numbers.partial_test)
 
 abbrev pub Numbered : ℕ → Type 0
 Numbered word = Stops word → Met (number_in word)
@@ -109,7 +109,7 @@ Numbered word = Stops word → Met (number_in word)
 
 -- what a word has: what it stands for, or a stop
 unfoldable pub result_of : {A : Type 0} → (ℕ → A) → ℕ → Result A
-result_of of word = cond (ltb word stopFrom) (gives (of word)) (stops (whyOf (number_in word)) (place_in word))
+result_of of word = cond (ltb word stop_from) (gives (of word)) (stops (why_of (number_in word)) (place_in word))
 
 -- the word r has the result x, and what it gives is known
 pub record Answers {A : Type 0} (of : ℕ → A) (Known : ℕ → Type 0) (x : Result A) (r : ℕ) : Type 0 where
@@ -119,13 +119,13 @@ pub record Answers {A : Type 0} (of : ℕ → A) (Known : ℕ → Type 0) (x : R
 
 -- ── a task ──────────────────────────────────────────────────────────────────────────────────
 
-abbrev pub runIn : ℕ → ℕ
-runIn task = task % upperHalf
+abbrev pub run_in : ℕ → ℕ
+run_in task = task % upper_half
 
-abbrev pub contextIn : ℕ → ℕ
-contextIn task = task / upperHalf
+abbrev pub context_in : ℕ → ℕ
+context_in task = task / upper_half
 
 -- the same run in another context
 pub record InContext (task context r : ℕ) : Type 0 where
-  pub context-is : contextIn r ≡ context
-  pub same : runIn r ≡ runIn task
+  pub context-is : context_in r ≡ context
+  pub same : run_in r ≡ run_in task

@@ -1,11 +1,11 @@
 -- The test is the definition's.
 use borrow.Author.Rules.{rules}
-use Rattle.names.specs.Names.{mayFollow}
+use Rattle.names.specs.Names.{may_follow}
 use Rattle.names.proofs.may_follow.Statement.{statement}
 use Rattle.names.proofs.may_follow.Tie as tie
 
 returns : tie.Need-returns
-unfolding mayFollow
+unfolding may_follow
 returns c = rw c.inner.ensures
 
 pub may-follow-spec : {M : Type 1} → statement M

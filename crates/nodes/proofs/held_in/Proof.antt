@@ -3,15 +3,15 @@
 use borrow.Author.Rules.{rules}
 use Prim.Native.Nat.{ℕ, ◌*◌, ◌/◌, ◌%◌, ◌^◌}
 use mathlib.Core.Path.{◌≡◌, sym, ap, ◌∙◌}
-use Rattle.nodes.specs.Nodes.{heldIn}
-use Rattle.nodes.proofs.Slots.{held_of, held-is, held_none}
+use Rattle.nodes.specs.Nodes.{held_in}
+use Rattle.nodes.proofs.Slots.{held_of, held_is, held_none}
 use Rattle.nodes.proofs.held_in.Statement.{statement}
 use Rattle.nodes.proofs.held_in.Tie as tie
 
-stands : (c : tie.After-row-of) → held_of (c.row_of.result / 2 ^ (c.before.args.k * 3) % 8) ≡ heldIn c.before.args.kind c.before.args.k
+stands : (c : tie.After-row-of) → held_of (c.row_of.result / 2 ^ (c.before.args.k * 3) % 8) ≡ held_in c.before.args.kind c.before.args.k
 stands c =
     let start = c.before in
-    ap (λ (row : ℕ). held_of (row / 2 ^ (start.args.k * 3) % 8)) c.row_of.ensures ∙ held-is start.args.kind start.args.k start.requires
+    ap (λ (row : ℕ). held_of (row / 2 ^ (start.args.k * 3) % 8)) c.row_of.ensures ∙ held_is start.args.kind start.args.k start.requires
 
 returns : tie.Need-returns
 returns c = sym (ap held_of c.match.keys1) ∙ stands c.before

@@ -4,33 +4,33 @@ use borrow.Author.Rules.{rules}
 use mathlib.Core.Path.{◌≡◌, sym, ◌∙◌}
 use mathlib.Core.Bool.{true}
 use borrow.Author.Tests.{not-true, not-false}
-use Rattle.nodes.specs.Nodes.{kind_at, opAt, known, operatorZero}
-use Rattle.nodes.proofs.Judged.{told-unknown, told-operator, told-unused, told-range, told-sort, told_none}
+use Rattle.nodes.specs.Nodes.{kind_at, op_at, known, operator_zero}
+use Rattle.nodes.proofs.Judged.{told_unknown, told-operator, told_unused, told_range, told-sort, told_none}
 use Rattle.nodes.proofs.judge_node.Statement.{statement}
 use Rattle.nodes.proofs.judge_node.Tie as tie
 
 known_is : (c : tie.After-known-kind) →
     let start = c.before.before.before.before in
-    known (kind_at start.args.nodes.now start.args.n) (opAt start.args.nodes.now start.args.n) ≡ c.known-kind.result
+    known (kind_at start.args.nodes.now start.args.n) (op_at start.args.nodes.now start.args.n) ≡ c.known-kind.result
 known_is c = sym (rw (c.before.before.kind-of.ensures, c.before.op-of.ensures) at c.known-kind.ensures)
 
 operator-is : (c : tie.After-operator-zero) →
     let start = c.before.before.before.before.before.before in
-    operatorZero (kind_at start.args.nodes.now start.args.n) (opAt start.args.nodes.now start.args.n) ≡ c.operator-zero.result
+    operator_zero (kind_at start.args.nodes.now start.args.n) (op_at start.args.nodes.now start.args.n) ≡ c.operator-zero.result
 operator-is c = sym (rw (c.before.before.before.before.kind-of.ensures, c.before.before.before.op-of.ensures) at c.operator-zero.ensures)
 
 known-node : (c : tie.Else1) →
     let start = c.before.before.before.before.before in
-    known (kind_at start.args.nodes.now start.args.n) (opAt start.args.nodes.now start.args.n) ≡ true
+    known (kind_at start.args.nodes.now start.args.n) (op_at start.args.nodes.now start.args.n) ≡ true
 known-node c = known_is c.before ∙ not-false _ c.if1.false
 
 operator-node : (c : tie.Else2) →
     let start = c.before.before.before.before.before.before.before in
-    operatorZero (kind_at start.args.nodes.now start.args.n) (opAt start.args.nodes.now start.args.n) ≡ true
+    operator_zero (kind_at start.args.nodes.now start.args.n) (op_at start.args.nodes.now start.args.n) ≡ true
 operator-node c = operator-is c.before ∙ not-false _ c.if2.false
 
 returns : tie.Need-returns
-returns c = told-unknown _ _ _ _ (known_is c.before ∙ not-true _ c.if1.true)
+returns c = told_unknown _ _ _ _ (known_is c.before ∙ not-true _ c.if1.true)
 
 returns-2 : tie.Need-returns-2
 returns-2 c = told-operator _ _ _ _ (known-node c.before.before) (operator-is c.before ∙ not-true _ c.if2.true)
@@ -38,14 +38,14 @@ returns-2 c = told-operator _ _ _ _ (known-node c.before.before) (operator-is c.
 returns-3 : tie.Need-returns-3
 returns-3 c =
     let two = c.before.before in
-    told-unused _ _ _ _ (known-node two.before.before) (operator-node two) (sym c.before.slots-right.ensures ∙ not-true _ c.if3.true)
+    told_unused _ _ _ _ (known-node two.before.before) (operator-node two) (sym c.before.slots-right.ensures ∙ not-true _ c.if3.true)
 
 returns-4 : tie.Need-returns-4
 returns-4 c =
     let three = c.before.before in
     let two = three.before.before in
     let unused = sym three.before.slots-right.ensures ∙ not-false _ three.if3.false in
-    told-range _ _ _ _ (known-node two.before.before) (operator-node two) unused (sym c.before.slots-right2.ensures ∙ not-true _ c.if4.true)
+    told_range _ _ _ _ (known-node two.before.before) (operator-node two) unused (sym c.before.slots-right2.ensures ∙ not-true _ c.if4.true)
 
 returns-5 : tie.Need-returns-5
 returns-5 c =

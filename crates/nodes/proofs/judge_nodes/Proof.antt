@@ -7,19 +7,19 @@ use mathlib.Core.Path.{◌≡◌, refl, sym, ap, ◌∙◌}
 use mathlib.Core.Bool.{true≢false}
 use borrow.Author.Tests.{not-true, not-false}
 use lib.ListN.{length}
-use Rattle.sections.specs.Verdict.{passesOf}
-use Rattle.nodes.specs.Nodes.{nodeCount, verdictBelow}
+use Rattle.sections.specs.Verdict.{passes_of}
+use Rattle.nodes.specs.Nodes.{node_count, verdict_below}
 use Rattle.nodes.specs.Inside.Counting.{Counts}
 use Rattle.sections.specs.declared.verdict.Verdict.TheVariants.{Passes}
 use Rattle.sections.proofs.Verdicts.{passes-is}
-use Rattle.nodes.proofs.Judged.{none_below, one_more, first-told, child-lower}
+use Rattle.nodes.proofs.Judged.{none_below, one_more, first-told, child_lower}
 use Rattle.nodes.proofs.Counted.{slots_length, node-counted, none-counted}
 use Rattle.nodes.proofs.judge_nodes.Statement.{statement}
 use Rattle.nodes.proofs.judge_nodes.Tie as tie
 
 abbrev invariant-loop : tie.invariant-loop
 invariant-loop nodes fields constants used₀ count n₀ used n =
-    (n ≤ count) × (count ≡ nodeCount nodes) × (length used ≡ length used₀) × (verdictBelow nodes fields constants n ≡ Passes) × Counts nodes n used
+    (n ≤ count) × (count ≡ node_count nodes) × (length used ≡ length used₀) × (verdict_below nodes fields constants n ≡ Passes) × Counts nodes n used
 
 abbrev decreases-loop : tie.decreases-loop
 decreases-loop nodes fields constants used₀ count n₀ used n = count - n
@@ -40,7 +40,7 @@ returns c =
     let at-loop = asked.before.before.before in
     let refuses = sym asked.take-node.ensures.0 ∙ not-true _ c.before.if1.true in (
       c.judge-node.ensures ∙ sym (first-told _ _ _ _ _ asked.before.before.loop-test.true at-loop.loop.invariant.3 refuses),
-      λ e. absurd (true≢false (sym e ∙ ap passesOf c.judge-node.ensures ∙ refuses)),
+      λ e. absurd (true≢false (sym e ∙ ap passes_of c.judge-node.ensures ∙ refuses)),
     )
 
 loop-again : tie.Need-loop-preserved invariant-loop decreases-loop
@@ -60,7 +60,7 @@ loop-again c =
       inv.1,
       ap length counted ∙ slots_length s n 3 used ∙ inv.2,
       one_more _ _ _ _ inv.3 (passes-is _ passes),
-      rw counted (node-counted s n used long (child-lower _ _ _ _ passes) inv.4),
+      rw counted (node-counted s n used long (child_lower _ _ _ _ passes) inv.4),
     )
 
 returns-2 : tie.Need-returns-2 invariant-loop decreases-loop

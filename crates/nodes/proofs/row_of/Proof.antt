@@ -1,7 +1,7 @@
 -- Each arm is a row of the table.
 use Rattle.basis.proofs.Matching.{past}
 use Rattle.nodes.specs.Inside.Rows.{row_of}
-use Rattle.nodes.proofs.Slots.{row-past}
+use Rattle.nodes.proofs.Slots.{row_past}
 use Rattle.nodes.proofs.row_of.Statement.{statement}
 use Rattle.nodes.proofs.row_of.Tie as tie
 
@@ -46,7 +46,7 @@ unfolding row_of
 returns-10 c = rw c.match.keys10
 
 returns-11 : tie.Need-returns-11
-returns-11 c = row-past _ (past 10 _ c.match.rest)
+returns-11 c = row_past _ (past 10 _ c.match.rest)
 
 pub row-of-spec : {M : Type 1} → statement M
 row-of-spec =

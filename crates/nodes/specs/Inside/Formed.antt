@@ -1,6 +1,6 @@
 -- What nodes have that pass.
 use Rattle.std.specs.Prelude.{ℕ, ◌≤◌, ◌<◌, ◌≡◌, List, length}
-use Rattle.nodes.specs.Nodes.{In, kind_at, opAt, slot_at, heldIn}
+use Rattle.nodes.specs.Nodes.{In, kind_at, op_at, slot_at, held_in}
 use Rattle.nodes.specs.declared.Held.{Held}
 use Rattle.nodes.specs.declared.Held.TheVariants.{Nothing, Constant, Field, Expression, Command}
 
@@ -25,8 +25,8 @@ Holds s fields constants n Command w = CmdBelow s n w
 
 pub record WellFormed (s : List ℕ) (fields constants : ℕ) : Type 0 where
   pub kind : (n : ℕ) → In s n → kind_at s n ≤ 9
-  pub operator : (n : ℕ) → In s n → kind_at s n ≡ 2 → opAt s n ≤ 9
-  pub slots : (n k : ℕ) → In s n → k < 3 → Holds s fields constants n (heldIn (kind_at s n) k) (slot_at s n k)
+  pub operator : (n : ℕ) → In s n → kind_at s n ≡ 2 → op_at s n ≤ 9
+  pub slots : (n k : ℕ) → In s n → k < 3 → Holds s fields constants n (held_in (kind_at s n) k) (slot_at s n k)
 
 -- 1 to 1,024 nodes, well formed for the counts of some sheet
 pub record Formed (s : List ℕ) : Type 0 where

@@ -1,10 +1,10 @@
 -- A file that is cut is refused with number 1, and one that is not is complete and has its run's text.
 use borrow.Author.Rules.{rules}
 use mathlib.Core.Path.{sym, ap, ◌∙◌}
-use Rattle.report.specs.Text.{refusedText}
-use Rattle.report.proofs.Putting.{begins-as}
+use Rattle.report.specs.Text.{refused_text}
+use Rattle.report.proofs.Putting.{begins_as}
 use Rattle.report.proofs.Filing.{complete}
-use Rattle.report.proofs.Reporting.{report-cut, report-run}
+use Rattle.report.proofs.Reporting.{report_cut, report_run}
 use Rattle.report.proofs.report.Statement.{statement}
 use Rattle.report.proofs.report.Tie as tie
 
@@ -13,8 +13,8 @@ returns c =
     let called = c.before.before in
     let answer = called.before.before in
     let cut = answer.before in
-    let is = report-cut _ (sym cut.before.is_cut.ensures ∙ cut.if1.true) in
-    begins-as (ap refusedText answer.refusal.ensures ∙ sym is) called.print-refused.ensures
+    let is = report_cut _ (sym cut.before.is_cut.ensures ∙ cut.if1.true) in
+    begins_as (ap refused_text answer.refusal.ensures ∙ sym is) called.print-refused.ensures
 
 report-run-requires : tie.Need-report-run-requires
 report-run-requires c κs =
@@ -25,7 +25,7 @@ returns-2 : tie.Need-returns-2
 returns-2 c =
     let called = c.before.before in
     let whole = called.before.before in
-    begins-as (sym (report-run _ (sym whole.before.is_cut.ensures ∙ whole.if1.false))) called.report-run.ensures
+    begins_as (sym (report_run _ (sym whole.before.is_cut.ensures ∙ whole.if1.false))) called.report_run.ensures
 
 pub report-spec : {M : Type 1} → statement M
 report-spec =

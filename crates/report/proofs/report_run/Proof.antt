@@ -7,9 +7,9 @@ use mathlib.Core.List.{List}
 use lib.ListN.{length}
 use Rattle.sections.specs.Sections.{fields_of}
 use Rattle.beltuqash.specs.Calls.{run, Yields}
-use Rattle.report.specs.File.{sheetIn}
-use Rattle.report.specs.Report.{lent, outcomeOf, runText}
-use Rattle.report.proofs.Putting.{begins-as}
+use Rattle.report.specs.File.{sheet_in}
+use Rattle.report.specs.Report.{lent, outcome_of, run_text}
+use Rattle.report.proofs.Putting.{begins_as}
 use Rattle.report.proofs.Reporting.{answer-told, done-fields}
 use Rattle.report.proofs.report_run.Statement.{statement}
 use Rattle.report.proofs.report_run.Tie as tie
@@ -21,8 +21,8 @@ file-of c = c.before.before.before.before.before.before.args.file.now
 -- the sheet, the store, the mode and the fuel are the file's
 ran : (c : tie.After-fuel) →
     let store = c.before.before in
-    run store.before.sheet.result.now store.store.result.now c.before.mode.result c.fuel.result lent ≡ outcomeOf (file-of c)
-unfolding outcomeOf
+    run store.before.sheet.result.now store.store.result.now c.before.mode.result c.fuel.result lent ≡ outcome_of (file-of c)
+unfolding outcome_of
 ran c =
     let store = c.before.before in
     rw (store.before.sheet.ensures, store.store.ensures, c.before.mode.ensures, c.fuel.ensures)
@@ -30,13 +30,13 @@ ran c =
 -- so what comes back is the file's outcome
 answers : (c : tie.After-beltuqash-run) →
     let called = c.beltuqash-run in
-    Yields (outcomeOf (file-of c.before.before)) called.result called.new.1.1.1.1.0
+    Yields (outcome_of (file-of c.before.before)) called.result called.new.1.1.1.1.0
 answers c = rw (← ran c.before.before) c.beltuqash-run.ensures.0
 
-answer-is : (c : tie.After-unpack) → c.unpack.result ≡ (outcomeOf (file-of c.before.before.before.before)).answer
+answer-is : (c : tie.After-unpack) → c.unpack.result ≡ (outcome_of (file-of c.before.before.before.before)).answer
 answer-is c = rw (c.unpack.ensures, (answers c.before.before).0) (answer-told _)
 
-fields-are : (c : tie.After-fields) → c.fields.result.now ≡ fields_of (sheetIn (file-of c.before.before.before.before.before))
+fields-are : (c : tie.After-fields) → c.fields.result.now ≡ fields_of (sheet_in (file-of c.before.before.before.before.before))
 fields-are c = c.fields.ensures ∙ ap fields_of c.before.before.before.before.before.before.before.before.sheet.ensures
 
 print-requires : tie.Need-print-requires
@@ -50,11 +50,11 @@ print-requires c κs =
     )
 
 returns : tie.Need-returns
-unfolding runText
+unfolding run_text
 returns c =
     let called = c.before.before in
     let fields = called.before.before.before in
-    begins-as (rw (answer-is fields.before, fields-are fields, (answers fields.before.before.before).1)) called.print.ensures
+    begins_as (rw (answer-is fields.before, fields-are fields, (answers fields.before.before.before).1)) called.print.ensures
 
 pub report-run-spec : {M : Type 1} → statement M
 report-run-spec =

@@ -1,15 +1,15 @@
 -- What functions of `report` are given.
 use Rattle.std.specs.Prelude.{ℕ, ◌+◌, ◌/◌, ◌≤◌, List, length}
-use Rattle.store.specs.Stores.{storeLength}
-use Rattle.report.specs.File.{sheetEnd}
+use Rattle.store.specs.Stores.{store_length}
+use Rattle.report.specs.File.{sheet_end}
 
 -- a file that is not cut
 abbrev pub Complete : List ℕ → Type 0
-Complete file = sheetEnd file + 2 ≤ length file
+Complete file = sheet_end file + 2 ≤ length file
 
 -- the names of some fields, and a store with an entry for each
 abbrev pub Entries : List ℕ → List ℕ → Type 0
-Entries fields store = storeLength (length fields / 8) ≤ length store
+Entries fields store = store_length (length fields / 8) ≤ length store
 
 -- at most 64 of them
 pub record Final (fields store : List ℕ) : Type 0 where

@@ -10,18 +10,18 @@ use borrow.Author.Tests.{not-true, not-false, le-ltb, lt-ltb}
 use lib.Dec.{leb}
 use lib.ListN.{length}
 use Rattle.levels.specs.Levels.{right}
-use Rattle.sections.specs.Verdict.{passesOf}
-use Rattle.sections.specs.Sections.{levelsOf, fields_of, constantsOf, nodesOf, sectionsVerdict}
-use Rattle.names.specs.Names.{namesRight}
-use Rattle.nodes.specs.Nodes.{In, nodeCount, kind_at, nodesVerdict}
-use Rattle.nodes.specs.Uses.{usedOnce}
-use Rattle.sheet.specs.Depth.{cmdDepth}
-use Rattle.sheet.specs.Load.{fieldCount, constantCount, last_of, program_of}
+use Rattle.sections.specs.Verdict.{passes_of}
+use Rattle.sections.specs.Sections.{levels_of, fields_of, constants_of, nodes_of, sections_verdict}
+use Rattle.names.specs.Names.{names_right}
+use Rattle.nodes.specs.Nodes.{In, node_count, kind_at, nodes_verdict}
+use Rattle.nodes.specs.Uses.{used_once}
+use Rattle.sheet.specs.Depth.{cmd_depth}
+use Rattle.sheet.specs.Load.{field_count, constant_count, last_of, program_of}
 use Rattle.sections.specs.declared.verdict.Verdict.TheVariants.{Passes}
 use Rattle.sections.proofs.Verdicts.{passes-is}
-use Rattle.sheet.proofs.Depths.{cmd-depth}
+use Rattle.sheet.proofs.Depths.{cmd_depth_lem}
 use Rattle.nodes.proofs.Counted.{all-counted, zeros}
-use Rattle.sheet.proofs.Loading.{nodes-length, NodesPass, layout-told, levels-told, names-told, nodes-told, unused-told, expression-told, depth-told, none_told, formed}
+use Rattle.sheet.proofs.Loading.{nodes-length, NodesPass, layout_told, levels-told, names-told, nodes-told, unused_told, expression_told, depth-told, none_told, formed}
 use Rattle.sheet.proofs.load.Statement.{statement}
 use Rattle.sheet.proofs.load.Tie as tie
 
@@ -37,29 +37,29 @@ sheet₃ c = sheet₂ c.before.before.before
 abbrev sheet₄ : tie.Else4 → List ℕ
 sheet₄ c = sheet₃ c.before.before.before.before.before.before.before
 
-layout : (c : tie.Else1) → sectionsVerdict (sheet₁ c) ≡ Passes
+layout : (c : tie.Else1) → sections_verdict (sheet₁ c) ≡ Passes
 layout c = sym c.before.before.judge-sections.ensures ∙ passes-is _ (sym c.before.passes.ensures ∙ not-false _ c.if1.false)
 
-levels-are : (c : tie.After-right) → right (levelsOf (sheet₁ c.before.before)) ≡ c.right.result
+levels-are : (c : tie.After-right) → right (levels_of (sheet₁ c.before.before)) ≡ c.right.result
 levels-are c = sym (c.right.ensures ∙ ap right c.before.levels.ensures)
 
-levels : (c : tie.Else2) → right (levelsOf (sheet₂ c)) ≡ true
+levels : (c : tie.Else2) → right (levels_of (sheet₂ c)) ≡ true
 levels c = levels-are c.before ∙ not-false _ c.if2.false
 
-names-are : (c : tie.After-names-right) → namesRight (fields_of (sheet₂ c.before.before)) ≡ c.names-right.result
-names-are c = sym (c.names-right.ensures ∙ ap namesRight c.before.fields.ensures)
+names-are : (c : tie.After-names-right) → names_right (fields_of (sheet₂ c.before.before)) ≡ c.names-right.result
+names-are c = sym (c.names-right.ensures ∙ ap names_right c.before.fields.ensures)
 
-names : (c : tie.Else3) → namesRight (fields_of (sheet₃ c)) ≡ true
+names : (c : tie.Else3) → names_right (fields_of (sheet₃ c)) ≡ true
 names c = names-are c.before ∙ not-false _ c.if3.false
 
 nodes-are : (c : tie.After-judge-nodes) →
     let s = sheet₃ c.before.before.before.before in
-    c.judge-nodes.result ≡ nodesVerdict (nodesOf s) (fieldCount s) (constantCount s)
+    c.judge-nodes.result ≡ nodes_verdict (nodes_of s) (field_count s) (constant_count s)
 nodes-are c =
     let parts = c.before.before in
     rw (parts.nodes.ensures, parts.before.constants.ensures, parts.before.before.before.before.fields.ensures) at c.judge-nodes.ensures.0
 
-faultless : (c : tie.Else4) → passesOf c.before.before.before.judge-nodes.result ≡ true
+faultless : (c : tie.Else4) → passes_of c.before.before.before.judge-nodes.result ≡ true
 faultless c = sym c.before.passes2.ensures ∙ not-false _ c.if4.false
 
 passed : (c : tie.Else4) → NodesPass (sheet₄ c)
@@ -74,47 +74,47 @@ passed c =
     }
 
 -- the nodes' part, with a last node
-part : (c : tie.Else4) → c.before.before.before.before.before.nodes.result.now ≡ nodesOf (sheet₄ c)
+part : (c : tie.Else4) → c.before.before.before.before.before.nodes.result.now ≡ nodes_of (sheet₄ c)
 part c = c.before.before.before.before.before.nodes.ensures
 
 last-in : (c : tie.Else4) →
     let s = c.before.before.before.before.before.nodes.result.now in
-    (1 ≤ nodeCount s) × In s (last_of s) × (nodeCount s ≤ 1024)
+    (1 ≤ node_count s) × In s (last_of s) × (node_count s ≤ 1024)
 last-in c =
     let s = c.before.before.before.before.before.nodes.result.now in
     let some : 8 ≤ length s = rw (part c) (formed _ (passed c)).some-node in
     let few : length s ≤ 8192 = rw (part c) (formed _ (passed c)).few in
     (omega arith, omega arith, omega arith)
 
-once_is : (c : tie.After-all-once) → usedOnce (nodesOf (sheet₄ c.before.before)) ≡ c.all_once.result
+once_is : (c : tie.After-all-once) → used_once (nodes_of (sheet₄ c.before.before)) ≡ c.all_once.result
 once_is c =
     let four = c.before.before in
-    sym (c.all_once.ensures ∙ all-counted (four.before.before.before.judge-nodes.ensures.1 (faultless four)) ∙ ap usedOnce (part four))
+    sym (c.all_once.ensures ∙ all-counted (four.before.before.before.judge-nodes.ensures.1 (faultless four)) ∙ ap used_once (part four))
 
-once : (c : tie.Else5) → usedOnce (nodesOf (sheet₄ c.before.before.before)) ≡ true
+once : (c : tie.Else5) → used_once (nodes_of (sheet₄ c.before.before.before)) ≡ true
 once c = once_is c.before ∙ not-false _ c.if5.false
 
 kind-is : (c : tie.After-kind-of) →
-    let s = nodesOf (sheet₄ c.before.before.before.before) in
+    let s = nodes_of (sheet₄ c.before.before.before.before) in
     c.kind-of.result ≡ kind_at s (last_of s)
 kind-is c = rw (part c.before.before.before.before) at c.kind-of.ensures
 
 command : (c : tie.Else6) →
-    let s = nodesOf (sheet₄ c.before.before.before.before.before) in
+    let s = nodes_of (sheet₄ c.before.before.before.before.before) in
     4 < kind_at s (last_of s)
 command c = rw (kind-is c.before) at c.if6.false
 
-depth_is : (c : tie.After-fits2) → leb (cmdDepth (program_of (sheet₄ c.before.before.before.before.before.before.before))) 64 ≡ c.fits2.result
+depth_is : (c : tie.After-fits2) → leb (cmd_depth (program_of (sheet₄ c.before.before.before.before.before.before.before))) 64 ≡ c.fits2.result
 depth_is c =
     let six = c.before.before in
     let four = six.before.before.before.before.before in
     let s = sheet₄ four in
-    sym (rw (part four) at (c.fits2.ensures (constantsOf s)) ∙ ap (λ (depth : ℕ). leb depth 64) (cmd-depth (constantsOf s) (nodesOf s) (last_of (nodesOf s)) (command six)))
+    sym (rw (part four) at (c.fits2.ensures (constants_of s)) ∙ ap (λ (depth : ℕ). leb depth 64) (cmd_depth_lem (constants_of s) (nodes_of s) (last_of (nodes_of s)) (command six)))
 
 returns : tie.Need-returns
 returns c =
     let is = c.before.before.judge-sections.ensures in
-    is ∙ layout-told _ (ap passesOf (sym is) ∙ sym c.before.passes.ensures ∙ not-true _ c.if1.true)
+    is ∙ layout_told _ (ap passes_of (sym is) ∙ sym c.before.passes.ensures ∙ not-true _ c.if1.true)
 
 returns-2 : tie.Need-returns-2
 returns-2 c = levels-told _ (layout c.before.before.before) (levels-are c.before ∙ not-true _ c.if2.true)
@@ -135,7 +135,7 @@ returns-4 c =
     let three = c.before.before.before.before.before.before.before in
     let two = three.before.before.before in
     let is = nodes-are c.before.before.before in
-    let refuses = ap passesOf (sym is) ∙ sym c.before.passes2.ensures ∙ not-true _ c.if4.true in
+    let refuses = ap passes_of (sym is) ∙ sym c.before.passes2.ensures ∙ not-true _ c.if4.true in
     is ∙ nodes-told _ (layout two.before.before.before) (levels two) (names three) refuses
 
 sub-last : tie.Need-overflow-sub-last
@@ -145,7 +145,7 @@ all-once-requires : tie.Need-all-once-requires
 all-once-requires c κs = omega (arith, (last-in c.before).2)
 
 returns-5 : tie.Need-returns-5
-returns-5 c = unused-told _ (passed c.before.before.before) (once_is c.before ∙ not-true _ c.if5.true)
+returns-5 c = unused_told _ (passed c.before.before.before) (once_is c.before ∙ not-true _ c.if5.true)
 
 kind-of-requires : tie.Need-kind-of-requires
 kind-of-requires c κs = (last-in c.before.before.before).1
@@ -153,7 +153,7 @@ kind-of-requires c κs = (last-in c.before.before.before).1
 returns-6 : tie.Need-returns-6
 returns-6 c =
     let five = c.before.before in
-    expression-told _ (passed five.before.before.before) (once five) (le-ltb 4 _ (rw (kind-is c.before) at c.if6.true))
+    expression_told _ (passed five.before.before.before) (once five) (le-ltb 4 _ (rw (kind-is c.before) at c.if6.true))
 
 fits-requires : tie.Need-fits-requires
 fits-requires c κs =

@@ -3,19 +3,19 @@ use borrow.Author.Rules.{rules}
 use mathlib.Core.Path.{◌≡◌, sym, ap, ◌∙◌}
 use mathlib.Core.Bool.{true}
 use Rattle.basis.specs.declared.answer.Answer.{Answer}
-use Rattle.basis.specs.Checks.{allHold}
-use Rattle.basis.proofs.Checks.{append-holds, append-fails, all_hold, some-fails}
-use Rattle.beltuqash.specs.Calls.{sheetChecks, load}
-use Rattle.beltuqash.proofs.Checking.{sheet-numbered, sheet-holds}
+use Rattle.basis.specs.Checks.{all_hold}
+use Rattle.basis.proofs.Checks.{append-holds, append-fails, all_hold_lem, some-fails}
+use Rattle.beltuqash.specs.Calls.{sheet_checks, load}
+use Rattle.beltuqash.proofs.Checking.{sheet_numbered, sheet_holds}
 use Rattle.beltuqash.proofs.checks.judge_both.Statement.{statement}
 use Rattle.beltuqash.proofs.checks.judge_both.Tie as tie
 
 abbrev start_of : tie.After-judge-sheet → tie.Start
 start_of c = c.before.before.before
 
-holds : (c : tie.Else1) → allHold (sheetChecks (start_of c.before.before).args.sheet.now) ≡ true
+holds : (c : tie.Else1) → all_hold (sheet_checks (start_of c.before.before).args.sheet.now) ≡ true
 unfolding load
-holds c = all_hold _ (sheet-numbered _) (ap (λ (a : Answer). a.number) (sym c.before.before.judge-sheet.ensures) ∙ c.if1.false)
+holds c = all_hold_lem _ (sheet_numbered _) (ap (λ (a : Answer). a.number) (sym c.before.before.judge-sheet.ensures) ∙ c.if1.false)
 
 returns : tie.Need-returns
 unfolding load
@@ -24,7 +24,7 @@ returns c =
     told ∙ sym (append-fails _ _ (some-fails _ (λ e. c.if1.true (ap (λ (a : Answer). a.number) told ∙ e)))).1
 
 judge-store-requires : tie.Need-judge-store-requires
-judge-store-requires c κs = sheet-holds _ (holds c)
+judge-store-requires c κs = sheet_holds _ (holds c)
 
 returns-2 : tie.Need-returns-2
 returns-2 c = c.judge-store.ensures ∙ sym (append-holds _ _ (holds c.before)).1

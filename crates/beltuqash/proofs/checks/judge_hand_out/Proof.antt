@@ -4,19 +4,19 @@ use mathlib.Core.Path.{◌≡◌, sym, ap, ◌∙◌}
 use mathlib.Core.Bool.{true}
 use mathlib.Core.List.{◌++◌}
 use Rattle.basis.specs.declared.answer.Answer.{Answer}
-use Rattle.basis.specs.Checks.{allHold}
-use Rattle.basis.proofs.Checks.{append-holds, append-fails, all_hold, some-fails}
+use Rattle.basis.specs.Checks.{all_hold}
+use Rattle.basis.proofs.Checks.{append-holds, append-fails, all_hold_lem, some-fails}
 use Rattle.store.specs.Marks.{mode_of}
-use Rattle.beltuqash.specs.Calls.{sheetChecks, storeChecks}
-use Rattle.beltuqash.proofs.Checking.{both-numbered, both_hold}
+use Rattle.beltuqash.specs.Calls.{sheet_checks, store_checks}
+use Rattle.beltuqash.proofs.Checking.{both_numbered, both_hold}
 use Rattle.beltuqash.proofs.checks.judge_hand_out.Statement.{statement}
 use Rattle.beltuqash.proofs.checks.judge_hand_out.Tie as tie
 
 abbrev start_of : tie.After-judge-both → tie.Start
 start_of c = c.before.before.before.before
 
-holds : (c : tie.Else1) → let a = (start_of c.before.before).args in allHold (sheetChecks a.sheet.now ++ storeChecks a.sheet.now a.store.now (mode_of 1)) ≡ true
-holds c = all_hold _ (both-numbered _ _ _) (ap (λ (a : Answer). a.number) (sym c.before.before.judge-both.ensures) ∙ c.if1.false)
+holds : (c : tie.Else1) → let a = (start_of c.before.before).args in all_hold (sheet_checks a.sheet.now ++ store_checks a.sheet.now a.store.now (mode_of 1)) ≡ true
+holds c = all_hold_lem _ (both_numbered _ _ _) (ap (λ (a : Answer). a.number) (sym c.before.before.judge-both.ensures) ∙ c.if1.false)
 
 returns : tie.Need-returns
 unfolding mode_of

@@ -12,15 +12,15 @@ use Rattle.basis.specs.Numbers as numbers
 use Rattle.basis.specs.Answer.{refusal}
 use Rattle.basis.specs.Checks.{tells}
 use Rattle.levels.specs.Levels.{count}
-use Rattle.sections.specs.Sections.{levelsOf}
-use Rattle.sheet.specs.Load.{fieldCount}
-use Rattle.handout.specs.Requests.{askedCount, requestRight}
-use Rattle.handout.specs.Answers.{answerLength}
-use Rattle.handout.proofs.Requesting.{Right, right-has}
+use Rattle.sections.specs.Sections.{levels_of}
+use Rattle.sheet.specs.Load.{field_count}
+use Rattle.handout.specs.Requests.{asked_count, request_right}
+use Rattle.handout.specs.Answers.{answer_length}
+use Rattle.handout.proofs.Requesting.{Right, right_has}
 use Rattle.store.specs.Marks.{mode_of}
-use Rattle.beltuqash.specs.Calls.{refusedPosition}
+use Rattle.beltuqash.specs.Calls.{refused_position}
 use Rattle.beltuqash.specs.Inside.Given.{Requested}
-use Rattle.beltuqash.proofs.Checking.{requested, asks-as}
+use Rattle.beltuqash.proofs.Checking.{requested, asks_as}
 use Rattle.beltuqash.proofs.checks.judge_request.Statement.{statement}
 use Rattle.beltuqash.proofs.checks.judge_request.Tie as tie
 
@@ -31,13 +31,13 @@ start_of c = c.before.before.before.before
 abbrev asked_of : tie.After-right → Bool
 asked_of c =
     let a = (start_of c.before.before).args in
-    ltb a.reader (count (levelsOf a.sheet.now)) && requestRight (fieldCount a.sheet.now) a.request.now
+    ltb a.reader (count (levels_of a.sheet.now)) && request_right (field_count a.sheet.now) a.request.now
 
 asked_is : (c : tie.After-right) → asked_of c ≡ (ltb (start_of c.before.before).args.reader (count c.before.before.levels.result.now) && c.right.result)
 asked_is c =
     let a = (start_of c.before.before).args in
     ap₂ (λ (rows : List ℕ) (b : Bool). ltb a.reader (count rows) && b) (sym c.before.before.levels.ensures)
-    (sym (c.right.ensures ∙ ap (λ (l : List ℕ). requestRight (length l / 8) a.request.now) c.before.fields.ensures))
+    (sym (c.right.ensures ∙ ap (λ (l : List ℕ). request_right (length l / 8) a.request.now) c.before.fields.ensures))
 
 asked : (c : tie.Else1) → asked_of c.before ≡ true
 asked c = asked_is c.before ∙ not-false _ c.if1.false
@@ -46,20 +46,20 @@ given : (c : tie.Else1) → let a = (start_of c.before.before.before).args in Re
 unfolding mode_of
 given c = requested _ _ _ _ (start_of c.before.before.before).requires (asked c)
 
-right : (c : tie.Else1) → let a = (start_of c.before.before.before).args in Right (fieldCount a.sheet.now) a.request.now
-right c = right-has _ _ (given c).request-right
+right : (c : tie.Else1) → let a = (start_of c.before.before.before).args in Right (field_count a.sheet.now) a.request.now
+right c = right_has _ _ (given c).right_request
 
 -- with room for the answer
 room : (c : tie.Else2) →
     let a = (start_of c.before.before.before.before.before).args in
-    leb (answerLength a.request.now) a.room ≡ true
-room c = let a = (start_of c.before.before.before.before.before).args in le-leb (answerLength a.request.now) a.room (omega (arith, c.if2.false, c.before.length.ensures))
+    leb (answer_length a.request.now) a.room ≡ true
+room c = let a = (start_of c.before.before.before.before.before).args in le-leb (answer_length a.request.now) a.room (omega (arith, c.if2.false, c.before.length.ensures))
 
 abbrev levels-of : tie.After-count → tie.After-levels
 levels-of c = c.before.before.before.before.before.before.before
 
 abbrev position-of : tie.After-count → ℕ
-position-of c = let a = (start_of (levels-of c)).args in refusedPosition a.sheet.now a.store.now a.reader a.request.now
+position-of c = let a = (start_of (levels-of c)).args in refused_position a.sheet.now a.store.now a.reader a.request.now
 
 first-is : (c : tie.After-count) → c.before.first-refusing.result ≡ position-of c
 first-is c = rw (levels-of c).levels.ensures at c.before.first-refusing.ensures
@@ -77,13 +77,13 @@ returns-2 c =
     let then = c.before in
     let long = then.before in
     let a = (start_of long.before.before.before.before).args in
-    let short = lt-leb (answerLength a.request.now) a.room (omega (arith, then.if2.true, long.length.ensures)) in
+    let short = lt-leb (answer_length a.request.now) a.room (omega (arith, then.if2.true, long.length.ensures)) in
     rw (asked long.before, short) c.refusal2.ensures
 
 first-refusing-requires : tie.Need-first-refusing-requires
 first-refusing-requires c κs =
     let one = c.before.before in
-    rw one.before.before.before.levels.ensures (asks-as (given one))
+    rw one.before.before.before.levels.ensures (asks_as (given one))
 
 count-requires : tie.Need-count-requires
 count-requires c κs = omega (arith, (right c.before.before.before).size)
@@ -94,9 +94,9 @@ returns-3 c =
     let then = c.before in
     let counted = then.before in
     let two = counted.before.before in
-    let asked-count = askedCount (start_of (levels-of counted)).args.request.now in
+    let asked-count = asked_count (start_of (levels-of counted)).args.request.now in
     let before = lt-leb asked-count (position-of counted) (omega (arith, then.if3.true, first-is counted, counted.count.ensures.0)) in
-    rw (asked two.before.before, room two, before) (c.refusal3.ensures ∙ ap (refusal numbers.partialAsked) (first-is counted))
+    rw (asked two.before.before, room two, before) (c.refusal3.ensures ∙ ap (refusal numbers.partial_asked) (first-is counted))
 
 returns-4 : tie.Need-returns-4
 unfolding tells
@@ -104,7 +104,7 @@ returns-4 c =
     let else = c.before in
     let counted = else.before in
     let two = counted.before.before in
-    let asked-count = askedCount (start_of (levels-of counted)).args.request.now in
+    let asked-count = asked_count (start_of (levels-of counted)).args.request.now in
     let none = le-leb asked-count (position-of counted) (omega (arith, else.if3.false, first-is counted, counted.count.ensures.0)) in
     rw (asked two.before.before, room two, none) c.success.ensures
 

@@ -10,14 +10,14 @@ use lib.Dec.{ltb, leb}
 use lib.ListN.{length}
 use Rattle.basis.specs.declared.answer.Answer.{Answer}
 use Rattle.basis.specs.Numbers as numbers
-use Rattle.basis.specs.Checks.{Check, check, allHold, tells}
-use Rattle.basis.proofs.Tests.{both, and-of, is_false}
-use Rattle.basis.proofs.Checks.{first_holds, first-fails, append-holds, append-fails, all_hold, some-fails}
-use Rattle.sheet.specs.Load.{fieldCount}
+use Rattle.basis.specs.Checks.{Check, check, all_hold, tells}
+use Rattle.basis.proofs.Tests.{both, and_of_lem, is_false}
+use Rattle.basis.proofs.Checks.{first_holds, first-fails, append-holds, append-fails, all_hold_lem, some-fails}
+use Rattle.sheet.specs.Load.{field_count}
 use Rattle.store.specs.Marks.{mode_of}
-use Rattle.store.specs.Stores.{storeLength}
-use Rattle.beltuqash.specs.Calls.{sheetChecks, storeChecks, runChecks}
-use Rattle.beltuqash.proofs.Checking.{both-numbered, both_hold, few-fields}
+use Rattle.store.specs.Stores.{store_length}
+use Rattle.beltuqash.specs.Calls.{sheet_checks, store_checks, run_checks}
+use Rattle.beltuqash.proofs.Checking.{both_numbered, both_hold, few-fields}
 use Rattle.beltuqash.proofs.checks.judge_run.Statement.{statement}
 use Rattle.beltuqash.proofs.checks.judge_run.Tie as tie
 
@@ -41,7 +41,7 @@ module _ (mode fuel : ℕ) where
   rightly-asked : (ltb 1 mode || ltb 1000000 fuel) ≡ false → asked ≡ true
   rightly-asked h =
       let (low, few) = neither (ltb 1 mode) _ h in
-      and-of (le-leb mode 1 (ltb-false 1 mode low)) (le-leb fuel 1000000 (ltb-false 1000000 fuel few))
+      and_of_lem (le-leb mode 1 (ltb-false 1 mode low)) (le-leb fuel 1000000 (ltb-false 1000000 fuel few))
 
 abbrev start_of : tie.Else1 → tie.Start
 start_of c = c.before.before.before
@@ -51,32 +51,32 @@ asks c = let a = (start_of c).args in rightly-asked a.mode a.fuel c.if1.false
 
 -- the checks of sheet and store, and the last
 abbrev both_of : tie.Else1 → List Check
-both_of c = let a = (start_of c).args in sheetChecks a.sheet.now ++ storeChecks a.sheet.now a.store.now (mode_of a.mode)
+both_of c = let a = (start_of c).args in sheet_checks a.sheet.now ++ store_checks a.sheet.now a.store.now (mode_of a.mode)
 
 abbrev room_of : tie.Else1 → List Check
-room_of c = let a = (start_of c).args in check (leb (storeLength (fieldCount a.sheet.now)) a.room) numbers.outShort 0 ∷ []
+room_of c = let a = (start_of c).args in check (leb (store_length (field_count a.sheet.now)) a.room) numbers.out_short 0 ∷ []
 
 abbrev tells-of : tie.Else1 → Answer
-tells-of c = let a = (start_of c).args in tells (runChecks a.sheet.now a.store.now a.mode a.fuel a.room)
+tells-of c = let a = (start_of c).args in tells (run_checks a.sheet.now a.store.now a.mode a.fuel a.room)
 
 -- past mode and fuel, the others decide
 past-asked : (c : tie.Else1) → tells-of c ≡ tells (both_of c ++ room_of c)
-past-asked c = let a = (start_of c).args in (first_holds (check (asked a.mode a.fuel) numbers.modeOrFuel 0) (both_of c ++ room_of c) (asks c)).1
+past-asked c = let a = (start_of c).args in (first_holds (check (asked a.mode a.fuel) numbers.mode_or_fuel 0) (both_of c ++ room_of c) (asks c)).1
 
-holds : (c : tie.Else2) → allHold (both_of c.before.before.before) ≡ true
+holds : (c : tie.Else2) → all_hold (both_of c.before.before.before) ≡ true
 holds c =
     let judged = c.before.before in
     let a = (start_of judged.before).args in
-    all_hold (both_of judged.before) (both-numbered a.sheet.now a.store.now (mode_of a.mode)) (ap (λ (x : Answer). x.number) (sym judged.judge-both.ensures) ∙ c.if2.false)
+    all_hold_lem (both_of judged.before) (both_numbered a.sheet.now a.store.now (mode_of a.mode)) (ap (λ (x : Answer). x.number) (sym judged.judge-both.ensures) ∙ c.if2.false)
 
 past-store : (c : tie.Else2) → tells-of c.before.before.before ≡ tells (room_of c.before.before.before)
 past-store c = let one = c.before.before.before in past-asked one ∙ (append-holds (room_of one) (both_of one) (holds c)).1
 
 abbrev length-of : tie.After-length → ℕ
-length-of c = storeLength (fieldCount (start_of c.before.before.before.before.before).args.sheet.now)
+length-of c = store_length (field_count (start_of c.before.before.before.before.before).args.sheet.now)
 
 length-is : (c : tie.After-length) → c.length.result ≡ length-of c
-length-is c = c.length.ensures ∙ ap (λ (l : List ℕ). storeLength (length l / 8)) c.before.fields.ensures
+length-is c = c.length.ensures ∙ ap (λ (l : List ℕ). store_length (length l / 8)) c.before.fields.ensures
 
 abbrev room_in : tie.After-length → ℕ
 room_in c = (start_of c.before.before.before.before.before).args.room
@@ -85,7 +85,7 @@ returns : tie.Need-returns
 returns c =
     let then = c.before in
     let a = then.before.before.before.args in
-    c.refusal.ensures ∙ sym (first-fails (check (asked a.mode a.fuel) numbers.modeOrFuel 0) _ (wrongly-asked a.mode a.fuel then.if1.true)).1
+    c.refusal.ensures ∙ sym (first-fails (check (asked a.mode a.fuel) numbers.mode_or_fuel 0) _ (wrongly-asked a.mode a.fuel then.if1.true)).1
 
 returns-2 : tie.Need-returns-2
 returns-2 c =
@@ -107,7 +107,7 @@ returns-3 c =
     let then = c.before in
     let long = then.before in
     let short = lt-leb (length-of long) (room_in long) (omega (arith, then.if3.true, length-is long)) in
-    c.refusal2.ensures ∙ sym (past-store long.before.before ∙ (first-fails (check (leb (length-of long) (room_in long)) numbers.outShort 0) [] short).1)
+    c.refusal2.ensures ∙ sym (past-store long.before.before ∙ (first-fails (check (leb (length-of long) (room_in long)) numbers.out_short 0) [] short).1)
 
 returns-4 : tie.Need-returns-4
 unfolding tells
@@ -115,7 +115,7 @@ returns-4 c =
     let else = c.before in
     let long = else.before in
     let room = le-leb (length-of long) (room_in long) (omega (arith, else.if3.false, length-is long)) in
-    c.success.ensures ∙ sym (past-store long.before.before ∙ (first_holds (check (leb (length-of long) (room_in long)) numbers.outShort 0) [] room).1)
+    c.success.ensures ∙ sym (past-store long.before.before ∙ (first_holds (check (leb (length-of long) (room_in long)) numbers.out_short 0) [] room).1)
 
 pub judge-run-spec : {M : Type 1} → statement M
 judge-run-spec =

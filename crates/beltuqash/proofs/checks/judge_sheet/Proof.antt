@@ -3,18 +3,18 @@ use borrow.Author.Rules.{rules}
 use native.Mathlib.Omega.{arith}
 use mathlib.Core.Path.{◌≡◌, sym, ap, ap₂, ◌∙◌}
 use Rattle.basis.specs.Answer.{refusal}
-use Rattle.sections.specs.Verdict.{verdictNumber, verdictPlace}
+use Rattle.sections.specs.Verdict.{verdict_number, verdict_place}
 use Rattle.sheet.specs.Load.{load_of}
 use Rattle.sheet.proofs.Loading.{load-placed}
 use Rattle.beltuqash.proofs.Checking.{load_is}
 use Rattle.beltuqash.proofs.checks.judge_sheet.Statement.{statement}
 use Rattle.beltuqash.proofs.checks.judge_sheet.Tie as tie
 
-number_is : (c : tie.After-number) → c.number.result ≡ verdictNumber (load_of c.before.before.before.args.sheet.now)
-number_is c = c.number.ensures ∙ ap verdictNumber c.before.load.ensures
+number_is : (c : tie.After-number) → c.number.result ≡ verdict_number (load_of c.before.before.before.args.sheet.now)
+number_is c = c.number.ensures ∙ ap verdict_number c.before.load.ensures
 
-place_is : (c : tie.After-place) → c.place.result ≡ verdictPlace (load_of c.before.before.before.before.args.sheet.now)
-place_is c = c.place.ensures ∙ ap verdictPlace c.before.before.load.ensures
+place_is : (c : tie.After-place) → c.place.result ≡ verdict_place (load_of c.before.before.before.before.args.sheet.now)
+place_is c = c.place.ensures ∙ ap verdict_place c.before.before.load.ensures
 
 cast-refusal : tie.Need-overflow-cast-refusal
 cast-refusal c = omega (arith, place_is c, load-placed c.before.before.before.before.args.sheet.now)

@@ -5,14 +5,14 @@ use native.Mathlib.Omega.{arith}
 use mathlib.Core.Path.{◌≡◌, refl, sym, ap, ◌∙◌}
 use mathlib.Core.List.{List, [], ◌∷◌}
 use lib.ListN.{length}
-use Rattle.sections.specs.Sections.{levelsOf, constantsOf, nodesOf}
-use Rattle.sheet.specs.Load.{fieldCount, last_of}
+use Rattle.sections.specs.Sections.{levels_of, constants_of, nodes_of}
+use Rattle.sheet.specs.Load.{field_count, last_of}
 use Rattle.marks.specs.Inside.Meanings.{First}
 use Rattle.flow.specs.Inside.Tasks.{CmdIn, Ran}
 use Rattle.basis.specs.Answer.{Outcome}
 use Rattle.beltuqash.specs.Calls.{ended}
 use Rattle.beltuqash.proofs.Checking.{few-fields, nodes-long, fits-long}
-use Rattle.beltuqash.proofs.Running.{moved, stop-out, task-in, Done, left-done, runs_done, marks-few, left-stopped, runs-stopped}
+use Rattle.beltuqash.proofs.Running.{moved, stop_out, task_in, Done, left-done, runs_done, marks-few, left-stopped, runs-stopped}
 use Rattle.beltuqash.proofs.runs.run_from.Statement.{statement}
 use Rattle.beltuqash.proofs.runs.run_from.Tie as tie
 
@@ -33,21 +33,21 @@ run-start c = start_of (fields-of (constants-of c))
 abbrev sheet-of : tie.After-fields → List ℕ
 sheet-of c = (start_of c).args.sheet.now
 
-rows_are : (c : tie.After-fields) → c.before.before.levels.result.now ≡ levelsOf (sheet-of c)
+rows_are : (c : tie.After-fields) → c.before.before.levels.result.now ≡ levels_of (sheet-of c)
 rows_are c = c.before.before.levels.ensures
 
-nodes-are : (c : tie.After-fields) → c.before.nodes.result.now ≡ nodesOf (sheet-of c)
+nodes-are : (c : tie.After-fields) → c.before.nodes.result.now ≡ nodes_of (sheet-of c)
 nodes-are c = c.before.nodes.ensures
 
-count-is : (c : tie.After-fields) → length c.fields.result.now / 8 ≡ fieldCount (sheet-of c)
+count-is : (c : tie.After-fields) → length c.fields.result.now / 8 ≡ field_count (sheet-of c)
 count-is c = ap (λ (l : List ℕ). length l / 8) c.fields.ensures
 
-constants-are : (c : tie.After-constants) → c.constants.result.now ≡ constantsOf (sheet-of (fields-of c))
+constants-are : (c : tie.After-constants) → c.constants.result.now ≡ constants_of (sheet-of (fields-of c))
 constants-are c = c.constants.ensures
 
 first : (c : tie.After-first-task) →
     let a = (start_of c.before.before.before).args in
-    First (levelsOf a.sheet.now) a.mode c.first-task.result
+    First (levels_of a.sheet.now) a.mode c.first-task.result
 first c = rw (rows_are c.before.before.before) at c.first-task.ensures
 
 ran : (c : tie.After-run) →
@@ -76,7 +76,7 @@ first-task-requires : tie.Need-first-task-requires
 first-task-requires c κs =
     let parts = c.before.before in
     let given = (start_of parts).requires in
-    (rw (rows_are parts) given.taken.loaded.levels, given.mode-known)
+    (rw (rows_are parts) given.taken.loaded.levels, given.mode_known)
 
 sub-run : tie.Need-overflow-sub-run
 sub-run c =
@@ -90,7 +90,7 @@ run-requires c κs =
     let parts = fields-of constants in
     moved (λ rows constants nodes. CmdIn (rows ∷ constants ∷ nodes ∷ []) task.before.fetch.new.1.0 (last_of nodes) task.first-task.result)
     (sym (rows_are parts)) (sym (constants-are constants)) (sym (nodes-are parts))
-    (task-in (start_of parts).pre task.before.fetch.ensures (first task))
+    (task_in (start_of parts).pre task.before.fetch.ensures (first task))
 
 stopped-requires : tie.Need-stopped-requires
 stopped-requires c κs =
@@ -103,7 +103,7 @@ returns c =
     let r = c.before.before in
     let high = c.before.if1.true in
     let is = runs-stopped (ran r) high (run-start r).args.out.now in
-    (c.stopped.ensures _ _ ∙ ap (λ (x : Outcome). x.answer) (sym is), sym (ap (λ (x : Outcome). x.out) is ∙ stop-out _ _ ((ran r).ran.told high) _ _))
+    (c.stopped.ensures _ _ ∙ ap (λ (x : Outcome). x.answer) (sym is), sym (ap (λ (x : Outcome). x.out) is ∙ stop_out _ _ ((ran r).ran.told high) _ _))
 
 deliver-requires : tie.Need-deliver-requires
 deliver-requires c κs =

@@ -4,13 +4,13 @@ use Prim.Native.Nat.{ℕ, suc, ◌+◌, ◌-◌, ◌≤◌, ◌<◌}
 use native.Mathlib.Omega.{arith}
 use mathlib.Core.Path.{◌≡◌, refl, sym, ap, ◌∙◌}
 use mathlib.Core.List.{map}
-use Rattle.value.specs.Values.{isTrue}
+use Rattle.value.specs.Values.{is_true}
 use Rattle.nodes.specs.Nodes.{kind_at}
-use Rattle.marks.specs.Inside.Parts.{nodesIn}
-use Rattle.marks.specs.Inside.Words.{valueIn, markIn, InContext}
+use Rattle.marks.specs.Inside.Parts.{nodes_in}
+use Rattle.marks.specs.Inside.Words.{value_in, mark_in, InContext}
 use Rattle.flow.proofs.Ends.{bit-few}
-use Rattle.flow.proofs.Running.{Going, starts, child, fuel-left, node-few, turn_below, first_stops, second-next, run-spent, at_last}
-use Rattle.flow.proofs.Running.{test-stops, side-below, side-next, while-done, body_below, context-known, round-stops, round-next}
+use Rattle.flow.proofs.Running.{Going, starts, child, fuel-left, node-few, turn_below, first_stops, second_next, run-spent, at_last}
+use Rattle.flow.proofs.Running.{test_stops, side_below, side_next, while-done, body_below, context-known, round_stops, round_next}
 use borrow.Fn.Kinds.{In}
 use borrow.Fn.PlainCycle.{Measures, is, falls, and}
 use Rattle.flow.proofs.commands.run.Reads as run
@@ -59,7 +59,7 @@ kind-in-requires t c κs = c.loop.invariant.command.inside
 
 kind-seven : (t : ℕ) (c : lts.Then1 (callees t) (at t) run.Post invariant-loop decreases-loop) →
     let loop = c.before.before in
-    kind_at (nodesIn (map (λ x. x.now) loop.before.args.parts.now)) loop.loop.n ≡ 7
+    kind_at (nodes_in (map (λ x. x.now) loop.before.args.parts.now)) loop.loop.n ≡ 7
 kind-seven t c = sym c.before.kind-in.ensures ∙ c.if1.true
 
 slot-in-requires : (t : ℕ) → lts.Need-slot-in-requires (callees t) (at t) run.Post invariant-loop decreases-loop
@@ -97,7 +97,7 @@ loop-again t c =
     let place = else.before.before in
     let then = place.before.before in
     rw (c.slot-in2.ensures.0, c.before.left_in.ensures)
-    (second-next _ _ _ _ _ then.before.before.loop.invariant (kind-seven t then) (rw place.slot-in.ensures.0 at else.before.run.ensures) else.if2.false)
+    (second_next _ _ _ _ _ then.before.before.loop.invariant (kind-seven t then) (rw place.slot-in.ensures.0 at else.before.run.ensures) else.if2.false)
 
 -- ── any other command ───────────────────────────────────────────────────────────────────────
 
@@ -133,7 +133,7 @@ returns-3 t c =
 -- past a sequence, a skip and an assignment there is a test
 kind-test : (t : ℕ) (c : lts.Else4 (callees t) (at t) run.Post invariant-loop decreases-loop) →
     let loop = c.before.before.before.before in
-    8 ≤ kind_at (nodesIn (map (λ x. x.now) loop.before.args.parts.now)) loop.loop.n
+    8 ≤ kind_at (nodes_in (map (λ x. x.now) loop.before.args.parts.now)) loop.loop.n
 kind-test t c =
     let one = c.before.before in
     omega (arith, one.before.kind-in.ensures, one.if1.false, c.if4.false)
@@ -146,21 +146,21 @@ returns-4 t c =
     let then = c.before in
     let four = then.before.before.before in
     let else = four.before in
-    test-stops _ _ _ _ _ else.before.before.before.loop.invariant (unit t else) then.before.test.ensures (kind-test t four) then.if5.true c.with-left.ensures
+    test_stops _ _ _ _ _ else.before.before.before.loop.invariant (unit t else) then.before.test.ensures (kind-test t four) then.if5.true c.with-left.ensures
 
 -- whether it holds, and the task in the joined context
 holds-is : (t : ℕ) (c : lts.After-is-true (callees t) (at t) run.Post invariant-loop decreases-loop) →
-    isTrue (valueIn c.before.before.before.before.before.test.result) ≡ c.is_true.result
-holds-is t c = sym (c.is_true.ensures ∙ ap isTrue c.before.value_in.ensures)
+    is_true (value_in c.before.before.before.before.before.test.result) ≡ c.is_true.result
+holds-is t c = sym (c.is_true.ensures ∙ ap is_true c.before.value_in.ensures)
 
 joined_is : (t : ℕ) (c : lts.After-in-context (callees t) (at t) run.Post invariant-loop decreases-loop) →
     let test = c.before.before.before in
-    InContext test.before.before.before.before.before.before.loop.task (markIn test.test.result) c.in-context.result
+    InContext test.before.before.before.before.before.before.loop.task (mark_in test.test.result) c.in-context.result
 joined_is t c = rw c.before.mark-in.ensures at c.in-context.ensures
 
 kind-eight : (t : ℕ) (c : lts.Then6 (callees t) (at t) run.Post invariant-loop decreases-loop) →
     let loop = c.before.before.before.before.before.before.before.before.before.before.before.before in
-    kind_at (nodesIn (map (λ x. x.now) loop.before.args.parts.now)) loop.loop.n ≡ 8
+    kind_at (nodes_in (map (λ x. x.now) loop.before.args.parts.now)) loop.loop.n ≡ 8
 kind-eight t c = sym c.before.before.before.before.before.before.before.before.before.before.before.kind-in.ensures ∙ c.if6.true
 
 sub-slot-in : (t : ℕ) → lts.Need-overflow-sub-slot-in (callees t) (at t) run.Post invariant-loop decreases-loop
@@ -176,7 +176,7 @@ loop-less-2 t c =
     let five = holds.before.before.before.before in
     let else = five.before.before.before.before in
     let g = else.before.before.before.loop.invariant in
-    let below = side-below _ _ _ _ _ g (unit t else) five.before.test.ensures five.if5.false (kind-eight t then) holds.is_true.result in
+    let below = side_below _ _ _ _ _ g (unit t else) five.before.test.ensures five.if5.false (kind-eight t then) holds.is_true.result in
     omega (arith, c.slot-in3.ensures.0, below.lower, unit t else)
 
 loop-again-2 : (t : ℕ) → lts.Need-loop-preserved-2 (callees t) (at t) run.Post invariant-loop decreases-loop
@@ -187,14 +187,14 @@ loop-again-2 t c =
     let else = five.before.before.before.before in
     let joined = joined_is t holds.before.before in
     rw c.slot-in3.ensures.0
-    (side-next _ _ _ _ _ else.before.before.before.loop.invariant (unit t else) five.before.test.ensures five.if5.false (kind-eight t then)
+    (side_next _ _ _ _ _ else.before.before.before.loop.invariant (unit t else) five.before.test.ensures five.if5.false (kind-eight t then)
     holds.is_true.result (holds-is t holds) joined)
 
 -- ── a while ─────────────────────────────────────────────────────────────────────────────────
 
 kind-nine : (t : ℕ) (c : lts.Else6 (callees t) (at t) run.Post invariant-loop decreases-loop) →
     let loop = c.before.before.before.before.before.before.before.before.before.before.before.before in
-    kind_at (nodesIn (map (λ x. x.now) loop.before.args.parts.now)) loop.loop.n ≡ 9
+    kind_at (nodes_in (map (λ x. x.now) loop.before.args.parts.now)) loop.loop.n ≡ 9
 kind-nine t c =
     let four = c.before.before.before.before.before.before.before.before in
     let kind = four.before.before.before in
@@ -233,7 +233,7 @@ returns-5 t c =
     let five = holds.before.before.before.before in
     let else = five.before.before.before.before in
     let joined = joined_is t holds.before.before in
-    round-stops _ _ _ _ _ else.before.before.before.loop.invariant (unit t else) five.before.test.ensures five.if5.false (kind-nine t six)
+    round_stops _ _ _ _ _ else.before.before.before.loop.invariant (unit t else) five.before.test.ensures five.if5.false (kind-nine t six)
     (holds-is t holds ∙ seven.if7.true) joined (rw place.slot-in4.ensures.0 at c.before.run2.ensures) c.if8.true
 
 loop-less-3 : (t : ℕ) → lts.Need-loop-smaller-3 (callees t) (at t) run.Post invariant-loop decreases-loop
@@ -253,7 +253,7 @@ loop-again-3 t c =
     let else = five.before.before.before.before in
     let joined = joined_is t holds.before.before in
     rw c.left-in2.ensures
-    (round-next _ _ _ _ _ else.before.before.before.loop.invariant (unit t else) five.before.test.ensures five.if5.false (kind-nine t six)
+    (round_next _ _ _ _ _ else.before.before.before.loop.invariant (unit t else) five.before.test.ensures five.if5.false (kind-nine t six)
     (holds-is t holds ∙ seven.if7.true) joined (rw place.slot-in4.ensures.0 at eight.before.run2.ensures) eight.if8.false)
 
 returns-6 : (t : ℕ) → lts.Need-returns-6 (callees t) (at t) run.Post invariant-loop decreases-loop

@@ -5,11 +5,11 @@ use native.Mathlib.Omega.{arith}
 use mathlib.Core.List.{map}
 use lib.ListN.{get_or}
 use Rattle.nodes.specs.Nodes.{slot_at}
-use Rattle.marks.specs.Inside.Parts.{nodesIn}
-use Rattle.marks.specs.Inside.Words.{markIn, runIn, contextIn}
+use Rattle.marks.specs.Inside.Parts.{nodes_in}
+use Rattle.marks.specs.Inside.Words.{mark_in, run_in, context_in}
 use Rattle.marks.specs.Inside.Meanings.{Stored}
-use Rattle.flow.specs.Inside.Tasks.{meaningIn, Evaluated}
-use Rattle.flow.proofs.Assigning.{field-few, field-known, source_in, assigned-stops, assigned-refused, assigned-done}
+use Rattle.flow.specs.Inside.Tasks.{meaning_in, Evaluated}
+use Rattle.flow.proofs.Assigning.{field-few, field-known, source_in, assigned_stops, assigned_refused, assigned_done}
 use Rattle.flow.proofs.commands.assign.Statement.{statement}
 use Rattle.flow.proofs.commands.assign.Tie as tie
 
@@ -17,7 +17,7 @@ use Rattle.flow.proofs.commands.assign.Tie as tie
 evaluated : (c : tie.After-expression) →
     let start = c.before.before.before.before in
     let parts = map (λ x. x.now) start.args.parts.now in
-    Evaluated parts start.args.work.now (runIn start.args.task) (slot_at (nodesIn parts) start.args.n 1) c.expression.result
+    Evaluated parts start.args.work.now (run_in start.args.task) (slot_at (nodes_in parts) start.args.n 1) c.expression.result
 evaluated c = rw (c.before.before.slot-in.ensures.0, c.before.run_in.ensures) at c.expression.ensures
 
 -- the field, and the mark that is left on it
@@ -30,8 +30,8 @@ stored : (c : tie.After-store) →
     let else = c.before.before.before.before.before in
     let start = else.before.before.before.before.before in
     let parts = map (λ x. x.now) start.args.parts.now in
-    Stored (meaningIn parts (runIn start.args.task)) start.args.n (contextIn start.args.task)
-    (markIn (get_or start.args.work.now (slot_at (nodesIn parts) start.args.n 0) 0)) (markIn else.before.expression.result) c.store.result
+    Stored (meaning_in parts (run_in start.args.task)) start.args.n (context_in start.args.task)
+    (mark_in (get_or start.args.work.now (slot_at (nodes_in parts) start.args.n 0) 0)) (mark_in else.before.expression.result) c.store.result
 stored c =
     let old = c.before.before in
     rw (old.mark-in.ensures, old.before.before.slot-in2.ensures.0, c.before.mark-in2.ensures) at c.store.ensures
@@ -44,7 +44,7 @@ expression-requires c κs =
 returns : tie.Need-returns
 returns c =
     let start = c.before.before.before.before.before in
-    assigned-stops start.requires.0 start.requires.1 (evaluated c.before) c.if1.true
+    assigned_stops start.requires.0 start.requires.1 (evaluated c.before) c.if1.true
 
 element-copy-out-mark-in : tie.Need-element-copy-out-mark-in
 element-copy-out-mark-in c = field-there c
@@ -70,7 +70,7 @@ returns-2 : tie.Need-returns-2
 returns-2 c =
     let else = c.before.before.before.before.before.before in
     let start = else.before.before.before.before.before in
-    assigned-refused start.requires.0 start.requires.1 (evaluated else.before) else.if1.false (stored c.before) c.if2.true
+    assigned_refused start.requires.0 start.requires.1 (evaluated else.before) else.if1.false (stored c.before) c.if2.true
 
 cast-word : tie.Need-overflow-cast-word
 cast-word c =
@@ -88,7 +88,7 @@ returns-3 c =
     let else = place.before in
     let start = else.before.before.before.before.before in
     rw place.slot-in2.ensures.0
-    (assigned-done start.requires.0 start.requires.1 (evaluated else.before) else.if1.false (stored two.before) two.if2.false
+    (assigned_done start.requires.0 start.requires.1 (evaluated else.before) else.if1.false (stored two.before) two.if2.false
     (rw c.before.value_in.ensures at c.word.ensures))
 
 pub assign-spec : {M : Type 1} → statement M

@@ -5,7 +5,7 @@ use native.Mathlib.Omega.{arith}
 use mathlib.Core.Path.{◌≡◌, refl, sym, ◌∙◌}
 use mathlib.Core.List.{map}
 use Rattle.nodes.specs.Nodes.{kind_at}
-use Rattle.marks.specs.Inside.Parts.{nodesIn}
+use Rattle.marks.specs.Inside.Parts.{nodes_in}
 use Rattle.flow.proofs.Running.{Going, starts, skip-done, assign-stops, assign-done}
 use Rattle.flow.proofs.commands.single.Statement.{statement}
 use Rattle.flow.proofs.commands.single.Tie as tie
@@ -17,7 +17,7 @@ whole : (c : tie.Start) →
     Going parts work c.args.n c.args.task (suc c.args.left) work c.args.n c.args.task (suc c.args.left)
 whole c = starts _ _ _ _ _ c.requires.0 (omega arith)
 
-kind-six : (c : tie.Else1) → let start = c.before.before in kind_at (nodesIn (map (λ x. x.now) start.args.parts.now)) start.args.n ≡ 6
+kind-six : (c : tie.Else1) → let start = c.before.before in kind_at (nodes_in (map (λ x. x.now) start.args.parts.now)) start.args.n ≡ 6
 kind-six c =
     let start = c.before.before in
     let least = start.requires.0.sort in

@@ -3,11 +3,11 @@ use borrow.Author.Rules.{rules}
 use native.Mathlib.Omega.{arith}
 use mathlib.Core.List.{map}
 use Rattle.nodes.specs.Nodes.{slot_at}
-use Rattle.marks.specs.Inside.Parts.{nodesIn}
-use Rattle.marks.specs.Inside.Words.{markIn, runIn, contextIn}
+use Rattle.marks.specs.Inside.Parts.{nodes_in}
+use Rattle.marks.specs.Inside.Words.{mark_in, run_in, context_in}
 use Rattle.marks.specs.Inside.Meanings.{Entered}
-use Rattle.flow.specs.Inside.Tasks.{meaningIn, Evaluated}
-use Rattle.flow.proofs.Testing.{expression-stops, test-refused, goes_on, test_in}
+use Rattle.flow.specs.Inside.Tasks.{meaning_in, Evaluated}
+use Rattle.flow.proofs.Testing.{expression_stops, test_refused, goes_on, test_in}
 use Rattle.flow.proofs.commands.test.Statement.{statement}
 use Rattle.flow.proofs.commands.test.Tie as tie
 
@@ -15,13 +15,13 @@ use Rattle.flow.proofs.commands.test.Tie as tie
 evaluated : (c : tie.After-expression) →
     let start = c.before.before.before in
     let parts = map (λ x. x.now) start.args.parts.now in
-    Evaluated parts start.args.work.now (runIn start.args.task) (slot_at (nodesIn parts) start.args.n 0) c.expression.result
+    Evaluated parts start.args.work.now (run_in start.args.task) (slot_at (nodes_in parts) start.args.n 0) c.expression.result
 evaluated c = rw (c.before.before.slot-in.ensures.0, c.before.run_in.ensures) at c.expression.ensures
 
 entered : (c : tie.After-enter) →
     let else = c.before.before in
     let start = else.before.before.before.before in
-    Entered (meaningIn (map (λ x. x.now) start.args.parts.now) (runIn start.args.task)) start.args.n (contextIn start.args.task) (markIn else.before.expression.result) c.enter.result
+    Entered (meaning_in (map (λ x. x.now) start.args.parts.now) (run_in start.args.task)) start.args.n (context_in start.args.task) (mark_in else.before.expression.result) c.enter.result
 entered c = rw c.before.mark-in.ensures at c.enter.ensures
 
 expression-requires : tie.Need-expression-requires
@@ -30,7 +30,7 @@ expression-requires c κs =
     rw (c.before.slot-in.ensures.0, c.run_in.ensures) (test_in start.requires.0 start.requires.1)
 
 returns : tie.Need-returns
-returns c = expression-stops _ _ _ _ _ (evaluated c.before) c.if1.true
+returns c = expression_stops _ _ _ _ _ (evaluated c.before) c.if1.true
 
 enter-requires : tie.Need-enter-requires
 enter-requires c κs =
@@ -50,7 +50,7 @@ returns-2 : tie.Need-returns-2
 returns-2 c =
     let enter = c.before in
     let else = enter.before.before in
-    test-refused _ _ _ _ _ (evaluated else.before) else.if1.false (entered enter) c.if2.true
+    test_refused _ _ _ _ _ (evaluated else.before) else.if1.false (entered enter) c.if2.true
 
 cast-word : tie.Need-overflow-cast-word
 cast-word c =

@@ -6,12 +6,12 @@ use native.Mathlib.Omega.{arith}
 use mathlib.Core.Path.{◌≡◌, sym, ap, ◌∙◌}
 use mathlib.Core.Logic.{⊎_elim}
 use mathlib.Core.List.{map}
-use Rattle.value.specs.Values.{notOf}
+use Rattle.value.specs.Values.{not_of}
 use Rattle.nodes.specs.Nodes.{kind_at, slot_at}
-use Rattle.marks.specs.Inside.Parts.{nodesIn}
+use Rattle.marks.specs.Inside.Parts.{nodes_in}
 use Rattle.marks.specs.Inside.Words.{Goes}
 use Rattle.flow.specs.Inside.Tasks.{ExpIn, Evaluated}
-use Rattle.flow.proofs.Expressions.{left_below, right-below, child-in, left-stop-word, not-word, seal-word, right-stop-word, operator-word}
+use Rattle.flow.proofs.Expressions.{left_below, right-below, child_in_lem, left_stop_word, not_word, seal_word, right_stop_word, operator_word}
 use borrow.Fn.Kinds.{In}
 use borrow.Fn.PlainCycle.{Measures, is, falls, and}
 use Rattle.flow.proofs.eval.eval.Reads as eval
@@ -62,22 +62,22 @@ front-callees t = (kind-in.Asked, kind-in.Learnt, slot-in.Asked, slot-in.Learnt,
 -- the node's kind, past the tests that lead to each place
 kind-is : (t : ℕ) (c : lts.After-slot-in (callees t) (at t) eval.Post) →
     let start = c.before.before in
-    kind_at (nodesIn (map (λ x. x.now) start.args.parts.now)) start.args.n ≡ c.before.kind-in.result
+    kind_at (nodes_in (map (λ x. x.now) start.args.parts.now)) start.args.n ≡ c.before.kind-in.result
 kind-is t c = sym c.before.kind-in.ensures
 
 kind-two : (t : ℕ) (c : lts.Then1 (callees t) (at t) eval.Post) →
     let start = c.before.before.before in
-    kind_at (nodesIn (map (λ x. x.now) start.args.parts.now)) start.args.n ≡ 2
+    kind_at (nodes_in (map (λ x. x.now) start.args.parts.now)) start.args.n ≡ 2
 kind-two t c = kind-is t c.before ∙ c.if1.true
 
 kind-from : (t : ℕ) (c : lts.Else6 (callees t) (at t) eval.Post) →
     let start = c.before.before.before.before in
-    2 ≤ kind_at (nodesIn (map (λ x. x.now) start.args.parts.now)) start.args.n
+    2 ≤ kind_at (nodes_in (map (λ x. x.now) start.args.parts.now)) start.args.n
 kind-from t c = let is = kind-is t c.before.before in omega (arith, c.if6.false)
 
 kind-four : (t : ℕ) (c : lts.Else8 (callees t) (at t) eval.Post) →
     let start = c.before.before.before.before.before.before.before in
-    kind_at (nodesIn (map (λ x. x.now) start.args.parts.now)) start.args.n ≡ 4
+    kind_at (nodes_in (map (λ x. x.now) start.args.parts.now)) start.args.n ≡ 4
 kind-four t c =
     let else = c.before.before.before in
     let is = kind-is t else.before.before in
@@ -89,10 +89,10 @@ left-child : (t : ℕ) (c : lts.After-slot-in (callees t) (at t) eval.Post) →
     let start = c.before.before in
     let parts = map (λ x. x.now) start.args.parts.now in
     let a = c.slot-in.result in
-    2 ≤ kind_at (nodesIn parts) start.args.n → (a < start.args.n) × ExpIn parts start.args.work.now start.args.run a
+    2 ≤ kind_at (nodes_in parts) start.args.n → (a < start.args.n) × ExpIn parts start.args.work.now start.args.run a
 left-child t c kind =
     let p = c.before.before.requires.1 in
-    rw c.slot-in.ensures.0 (child-in p (left_below p.ready.formed _ p.inside kind p.sort))
+    rw c.slot-in.ensures.0 (child_in_lem p (left_below p.ready.formed _ p.inside kind p.sort))
 
 first-child : (t : ℕ) (c : lts.Then1 (callees t) (at t) eval.Post) →
     let start = c.before.before.before in
@@ -107,13 +107,13 @@ right_child : (t : ℕ) (c : lts.After-slot-in2 (callees t) (at t) eval.Post) �
 right_child t c =
     let then = c.before.before.before in
     let p = then.before.before.before.requires.1 in
-    rw c.slot-in2.ensures.0 (child-in p (right-below p.ready.formed _ p.inside (kind-two t then)))
+    rw c.slot-in2.ensures.0 (child_in_lem p (right-below p.ready.formed _ p.inside (kind-two t then)))
 
 -- what they gave, where they did not stop
 left-given : (t : ℕ) (c : lts.Joined2 (callees t) (at t) eval.Post) →
     let start = c.before.before.before.before.before in
     let parts = map (λ x. x.now) start.args.parts.now in
-    Evaluated parts start.args.work.now start.args.run (slot_at (nodesIn parts) start.args.n 0) c.if2.left × Goes c.if2.left
+    Evaluated parts start.args.work.now start.args.run (slot_at (nodes_in parts) start.args.n 0) c.if2.left × Goes c.if2.left
 left-given t c =
     rw (sym c.before.before.before.slot-in.ensures.0)
     (⊎_elim (λ w. rw w.2 w.1.ensures) (λ w. rw w.3 (w.1.ensures, w.2.left)) c.if2.branch)
@@ -121,7 +121,7 @@ left-given t c =
 right-given : (t : ℕ) (c : lts.Joined4 (callees t) (at t) eval.Post) →
     let start = c.before.before.before.before.before.before.before.before in
     let parts = map (λ x. x.now) start.args.parts.now in
-    Evaluated parts start.args.work.now start.args.run (slot_at (nodesIn parts) start.args.n 1) c.if4.right × Goes c.if4.right
+    Evaluated parts start.args.work.now start.args.run (slot_at (nodes_in parts) start.args.n 1) c.if4.right × Goes c.if4.right
 right-given t c =
     rw (sym c.before.before.slot-in2.ensures.0)
     (⊎_elim (λ w. rw w.2 w.1.ensures) (λ w. rw w.3 (w.1.ensures, w.2.left)) c.if4.branch)
@@ -129,7 +129,7 @@ right-given t c =
 only-given : (t : ℕ) (c : lts.After-eval (callees t) (at t) eval.Post) →
     let start = c.before.before.before.before.before in
     let parts = map (λ x. x.now) start.args.parts.now in
-    Evaluated parts start.args.work.now start.args.run (slot_at (nodesIn parts) start.args.n 0) c.eval.result
+    Evaluated parts start.args.work.now start.args.run (slot_at (nodes_in parts) start.args.n 0) c.eval.result
 only-given t c = rw c.before.before.before.slot-in.ensures.0 at c.eval.ensures
 
 kind-in-requires : (t : ℕ) → lts.Need-kind-in-requires (callees t) (at t) eval.Post
@@ -157,7 +157,7 @@ returns : (t : ℕ) → lts.Need-returns (callees t) (at t) eval.Post
 returns t c =
     let then = c.before.before.before.before in
     let p = then.before.before.before.requires.1 in
-    left-stop-word p (omega (arith, kind-two t then)) (rw then.before.slot-in.ensures.0 at c.before.expression.ensures) c.if3.true
+    left_stop_word p (omega (arith, kind-two t then)) (rw then.before.slot-in.ensures.0 at c.before.expression.ensures) c.if3.true
 
 slot-in-requires-2 : (t : ℕ) → lts.Need-slot-in-requires-2 (callees t) (at t) eval.Post
 slot-in-requires-2 t c κs = (c.before.before.before.before.before.requires.1.inside, omega arith)
@@ -184,7 +184,7 @@ returns-2 t c =
     let then = joined.before.before in
     let p = then.before.before.before.requires.1 in
     let (left, small) = left-given t joined in
-    right-stop-word p left small (kind-two t then) (rw second.slot-in2.ensures.0 at c.before.expression2.ensures) c.if5.true
+    right_stop_word p left small (kind-two t then) (rw second.slot-in2.ensures.0 at c.before.expression2.ensures) c.if5.true
 
 operate-requires : (t : ℕ) → lts.Need-operate-requires (callees t) (at t) eval.Post
 operate-requires t c κs =
@@ -203,7 +203,7 @@ returns-3 t c =
     let p = then.before.before.before.requires.1 in
     let (left, small-left) = left-given t joined in
     let (right, small-right) = right-given t c.before in
-    operator-word p left small-left (kind-two t then) right small-right c.operate.ensures
+    operator_word p left small-left (kind-two t then) right small-right c.operate.ensures
 
 leaf-requires-3 : (t : ℕ) → lts.Need-leaf-requires-3 (callees t) (at t) eval.Post
 leaf-requires-3 t c κs =
@@ -225,7 +225,7 @@ returns-5 : (t : ℕ) → lts.Need-returns-5 (callees t) (at t) eval.Post
 returns-5 t c =
     let else = c.before.before in
     let p = else.before.before.before.before.requires.1 in
-    left-stop-word p (kind-from t else) (only-given t c.before) c.if7.true
+    left_stop_word p (kind-from t else) (only-given t c.before) c.if7.true
 
 returns-6 : (t : ℕ) → lts.Need-returns-6 (callees t) (at t) eval.Post
 returns-6 t c =
@@ -234,8 +234,8 @@ returns-6 t c =
     let else = call.before in
     let p = else.before.before.before.before.requires.1 in
     let kind = kind-is t else.before.before ∙ then.if8.true in
-    let value = c.before.before.not.ensures ∙ ap notOf c.before.before.before.value_in.ensures in
-    not-word p (only-given t call) then.before.if7.false kind value c.before.mark-in.ensures c.word.ensures
+    let value = c.before.before.not.ensures ∙ ap not_of c.before.before.before.value_in.ensures in
+    not_word p (only-given t call) then.before.if7.false kind value c.before.mark-in.ensures c.word.ensures
 
 sealed-requires : (t : ℕ) → lts.Need-sealed-requires (callees t) (at t) eval.Post
 sealed-requires t c κs = c.before.before.before.before.before.before.before.before.requires.1.ready.askable
@@ -245,13 +245,13 @@ returns-7 t c =
     let last = c.before.before.before in
     let call = last.before.before in
     let p = call.before.before.before.before.before.requires.1 in
-    seal-word p (only-given t call) last.before.if7.false (kind-four t last) c.before.before.value-in2.ensures c.before.sealed.ensures c.word2.ensures
+    seal_word p (only-given t call) last.before.if7.false (kind-four t last) c.before.before.value-in2.ensures c.before.sealed.ensures c.word2.ensures
 
 -- ── an operator on two leaves ───────────────────────────────────────────────────────────────
 
 front-two : (t : ℕ) (c : front.Then1 (front-callees t) (front_at t) expression.Post) →
     let start = c.before.before in
-    kind_at (nodesIn (map (λ x. x.now) start.args.parts.now)) start.args.n ≡ 2
+    kind_at (nodes_in (map (λ x. x.now) start.args.parts.now)) start.args.n ≡ 2
 front-two t c = sym c.before.kind-in.ensures ∙ c.if1.true
 
 front-left : (t : ℕ) (c : front.After-slot-in (front-callees t) (front_at t) expression.Post) →
@@ -259,7 +259,7 @@ front-left : (t : ℕ) (c : front.After-slot-in (front-callees t) (front_at t) e
     ExpIn (map (λ x. x.now) start.args.parts.now) start.args.work.now start.args.run c.slot-in.result
 front-left t c =
     let p = c.before.before.before.requires.1 in
-    rw c.slot-in.ensures.0 (child-in p (left_below p.ready.formed _ p.inside (omega (arith, front-two t c.before)) p.sort)).1
+    rw c.slot-in.ensures.0 (child_in_lem p (left_below p.ready.formed _ p.inside (omega (arith, front-two t c.before)) p.sort)).1
 
 front-right : (t : ℕ) (c : front.After-slot-in2 (front-callees t) (front_at t) expression.Post) →
     let start = c.before.before.before.before.before.before.before in
@@ -267,15 +267,15 @@ front-right : (t : ℕ) (c : front.After-slot-in2 (front-callees t) (front_at t)
 front-right t c =
     let then = c.before.before.before.before.before in
     let p = then.before.before.requires.1 in
-    rw c.slot-in2.ensures.0 (child-in p (right-below p.ready.formed _ p.inside (front-two t then))).1
+    rw c.slot-in2.ensures.0 (child_in_lem p (right-below p.ready.formed _ p.inside (front-two t then))).1
 
 -- what the leaves gave
 front-given : (t : ℕ) (c : front.After-leaf2 (front-callees t) (front_at t) expression.Post) →
     let leaf = c.before.before.before.before in
     let start = leaf.before.before.before.before.before.before in
     let parts = map (λ x. x.now) start.args.parts.now in
-    (Evaluated parts start.args.work.now start.args.run (slot_at (nodesIn parts) start.args.n 0) leaf.leaf.result × Goes leaf.leaf.result) ×
-    (Evaluated parts start.args.work.now start.args.run (slot_at (nodesIn parts) start.args.n 1) c.leaf2.result × Goes c.leaf2.result)
+    (Evaluated parts start.args.work.now start.args.run (slot_at (nodes_in parts) start.args.n 0) leaf.leaf.result × Goes leaf.leaf.result) ×
+    (Evaluated parts start.args.work.now start.args.run (slot_at (nodes_in parts) start.args.n 1) c.leaf2.result × Goes c.leaf2.result)
 front-given t c =
     let second = c.before.before.before in
     let leaf = second.before in
@@ -318,7 +318,7 @@ front-returns : (t : ℕ) → front.Need-returns (front-callees t) (front_at t) 
 front-returns t c =
     let then = c.before.before.before.before.before.before.before.before.before in
     let ((left, small-left), (right, small-right)) = front-given t c.before in
-    operator-word then.before.before.requires.1 left small-left (front-two t then) right small-right c.operate.ensures
+    operator_word then.before.before.requires.1 left small-left (front-two t then) right small-right c.operate.ensures
 
 front-eval-requires : (t : ℕ) → front.Need-eval-requires (front-callees t) (front_at t) expression.Post
 front-eval-requires t c κs =

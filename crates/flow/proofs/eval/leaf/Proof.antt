@@ -3,18 +3,18 @@ use borrow.Author.Rules.{rules}
 use native.Mathlib.Omega.{arith}
 use mathlib.Core.Path.{◌≡◌, sym, ◌∙◌}
 use mathlib.Core.List.{map}
-use Rattle.nodes.specs.Nodes.{kind_at, kinds, heldIn}
-use Rattle.sheet.proofs.Trees.{held-there}
-use Rattle.marks.specs.Inside.Parts.{nodesIn}
-use Rattle.flow.proofs.Expressions.{held-field, constant-word, field-word}
+use Rattle.nodes.specs.Nodes.{kind_at, kinds, held_in}
+use Rattle.sheet.proofs.Trees.{held_there}
+use Rattle.marks.specs.Inside.Parts.{nodes_in}
+use Rattle.flow.proofs.Expressions.{held_field, constant_word, field_word}
 use Rattle.flow.proofs.eval.leaf.Statement.{statement}
 use Rattle.flow.proofs.eval.leaf.Tie as tie
 
 -- the node's kind, past the test that leads to each place
-kind-one : (c : tie.Then1) → let start = c.before.before.before in kind_at (nodesIn (map (λ x. x.now) start.args.parts.now)) start.args.n ≡ 1
+kind-one : (c : tie.Then1) → let start = c.before.before.before in kind_at (nodes_in (map (λ x. x.now) start.args.parts.now)) start.args.n ≡ 1
 kind-one c = sym c.before.kind-in.ensures ∙ c.if1.true
 
-kind-zero : (c : tie.Else1) → let start = c.before.before.before in kind_at (nodesIn (map (λ x. x.now) start.args.parts.now)) start.args.n ≡ 0
+kind-zero : (c : tie.Else1) → let start = c.before.before.before in kind_at (nodes_in (map (λ x. x.now) start.args.parts.now)) start.args.n ≡ 0
 kind-zero c =
     let start = c.before.before.before in
     let is = c.before.kind-in.ensures in
@@ -25,7 +25,7 @@ element-copy-out-held c =
     let start = c.before.before.before in
     let p = start.requires.0 in
     let few = p.ready.few-fields in
-    omega (arith, c.before.before.slot-in.ensures.0, held-field p.ready.formed _ p.inside (kind-one c))
+    omega (arith, c.before.before.slot-in.ensures.0, held_field p.ready.formed _ p.inside (kind-one c))
 
 read-requires : tie.Need-read-requires
 read-requires c κs =
@@ -38,14 +38,14 @@ returns c =
     let value = mark.before in
     let then = value.before.before in
     let start = then.before.before.before in
-    field-word start.requires.0 (kind-one then) then.before.before.slot-in.ensures.0 value.value_in.ensures mark.mark-in.ensures c.before.read.ensures c.word.ensures
+    field_word start.requires.0 (kind-one then) then.before.before.slot-in.ensures.0 value.value_in.ensures mark.mark-in.ensures c.before.read.ensures c.word.ensures
 
 constant-in-requires : tie.Need-constant-in-requires
-unfolding heldIn kinds
+unfolding held_in kinds
 constant-in-requires c κs =
     let start = c.before.before.before in
     let p = start.requires.0 in
-    rw c.before.before.slot-in.ensures.0 (held-there p.ready.formed _ p.inside 0 0 (kind-zero c) (omega arith))
+    rw c.before.before.slot-in.ensures.0 (held_there p.ready.formed _ p.inside 0 0 (kind-zero c) (omega arith))
 
 constant-requires : tie.Need-constant-requires
 constant-requires c κs = c.before.before.before.before.requires.0.ready.askable
@@ -55,7 +55,7 @@ returns-2 c =
     let value = c.before.before in
     let else = value.before in
     let start = else.before.before.before in
-    constant-word start.requires.0 (kind-zero else) else.before.before.slot-in.ensures.0 value.constant-in.ensures c.before.constant.ensures c.word2.ensures
+    constant_word start.requires.0 (kind-zero else) else.before.before.slot-in.ensures.0 value.constant-in.ensures c.before.constant.ensures c.word2.ensures
 
 pub leaf-spec : {M : Type 1} → statement M
 leaf-spec =

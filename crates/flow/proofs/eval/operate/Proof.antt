@@ -2,18 +2,18 @@
 use borrow.Author.Rules.{rules}
 use mathlib.Core.Path.{◌≡◌, sym, ◌∙◌}
 use mathlib.Core.List.{map}
-use Rattle.value.specs.Values.{operatorOf}
-use Rattle.nodes.specs.Nodes.{opAt}
-use Rattle.marks.specs.Inside.Parts.{nodesIn}
-use Rattle.marks.specs.Inside.Words.{valueIn}
-use Rattle.flow.proofs.Expressions.{operated-word, range-word, zero_word}
+use Rattle.value.specs.Values.{operator_of}
+use Rattle.nodes.specs.Nodes.{op_at}
+use Rattle.marks.specs.Inside.Parts.{nodes_in}
+use Rattle.marks.specs.Inside.Words.{value_in}
+use Rattle.flow.proofs.Expressions.{operated_word, range_word, zero_word}
 use Rattle.flow.proofs.eval.operate.Statement.{statement}
 use Rattle.flow.proofs.eval.operate.Tie as tie
 
 -- what the operator gave, of the words' own values
 applied : (c : tie.After-apply) →
     let start = c.before.before.before.before in
-    c.apply.result ≡ operatorOf (opAt (nodesIn (map (λ x. x.now) start.args.parts.now)) start.args.n) (valueIn start.args.left) (valueIn start.args.right)
+    c.apply.result ≡ operator_of (op_at (nodes_in (map (λ x. x.now) start.args.parts.now)) start.args.n) (value_in start.args.left) (value_in start.args.right)
 applied c = rw (c.before.before.before.op-in.ensures, c.before.before.value_in.ensures, c.before.value-in2.ensures) at c.apply.ensures
 
 join-requires : tie.Need-join-requires
@@ -27,14 +27,14 @@ returns c =
     let bound = marks.before.before.before in
     let call = bound.before.before in
     let a = call.before.before.before.before.args in
-    operated-word (map (λ x. x.now) a.parts.now) a.run a.n a.left a.right (sym (applied call) ∙ bound.v.given.1)
+    operated_word (map (λ x. x.now) a.parts.now) a.run a.n a.left a.right (sym (applied call) ∙ bound.v.given.1)
     (rw (marks.before.mark-in.ensures, marks.mark-in2.ensures) at c.before.join.ensures) c.word.ensures
 
 returns-2 : tie.Need-returns-2
 returns-2 c =
     let call = c.before.before.before in
     let a = call.before.before.before.before.args in
-    range-word (map (λ x. x.now) a.parts.now) a.run a.n a.left a.right (sym (applied call) ∙ c.before.enum_told.given.1) c.stop.ensures
+    range_word (map (λ x. x.now) a.parts.now) a.run a.n a.left a.right (sym (applied call) ∙ c.before.enum_told.given.1) c.stop.ensures
 
 returns-3 : tie.Need-returns-3
 returns-3 c =

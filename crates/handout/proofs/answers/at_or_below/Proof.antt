@@ -3,8 +3,8 @@ use borrow.Author.Rules.{rules}
 use Prim.Native.Nat.{ℕ}
 use mathlib.Core.Path.{◌≡◌, sym, ap, ◌∙◌}
 use Rattle.levels.proofs.Laws.{le-at}
-use Rattle.store.specs.Marks.{levelOf, mark_of}
-use Rattle.store.specs.Stores.{markAt}
+use Rattle.store.specs.Marks.{level_of, mark_of}
+use Rattle.store.specs.Stores.{mark_at}
 use Rattle.store.proofs.Marks.{known_is}
 use Rattle.handout.proofs.answers.at_or_below.Statement.{statement}
 use Rattle.handout.proofs.answers.at_or_below.Tie as tie
@@ -16,8 +16,8 @@ level-of-requires : tie.Need-level-of-requires
 level-of-requires c κs = rw c.mark-at.ensures.0 (known_is _ _ (start_of c).requires.mark).0
 
 -- the level that was asked about is the field's
-level-is : (c : tie.After-level-of) → let a = (start_of c.before).args in c.level-of.result ≡ levelOf (mark_of (markAt a.store.now a.i))
-level-is c = c.level-of.ensures.0 ∙ ap (λ (m : ℕ). levelOf (mark_of m)) c.before.mark-at.ensures.0
+level-is : (c : tie.After-level-of) → let a = (start_of c.before).args in c.level-of.result ≡ level_of (mark_of (mark_at a.store.now a.i))
+level-is c = c.level-of.ensures.0 ∙ ap (λ (m : ℕ). level_of (mark_of m)) c.before.mark-at.ensures.0
 
 at-or-below-requires : tie.Need-at-or-below-requires
 at-or-below-requires c κs =

@@ -8,15 +8,15 @@ use mathlib.Core.Bool.{Bool}
 use Rattle.basis.proofs.Tests.{None, none-at-first, none_more, first-is, first-none}
 use Rattle.levels.specs.Lattice.{lattice}
 use Rattle.store.specs.Stores.{store_of}
-use Rattle.handout.specs.Requests.{askedCount}
-use Rattle.handout.specs.Answers.{refuses, refusesAt, firstRefusing}
-use Rattle.handout.proofs.Requesting.{right-has}
+use Rattle.handout.specs.Requests.{asked_count}
+use Rattle.handout.specs.Answers.{refuses, refuses_at, first_refusing}
+use Rattle.handout.proofs.Requesting.{right_has}
 use Rattle.handout.proofs.Answering.{faces}
 use Rattle.handout.proofs.answers.first_refusing.Statement.{statement}
 use Rattle.handout.proofs.answers.first_refusing.Tie as tie
 
 abbrev invariant-loop : tie.invariant-loop
-invariant-loop rows store reader request asked position₀ position = (position ≤ asked) × None position (refusesAt (lattice rows) reader (store_of store) request)
+invariant-loop rows store reader request asked position₀ position = (position ≤ asked) × None position (refuses_at (lattice rows) reader (store_of store) request)
 
 abbrev decreases-loop : tie.decreases-loop
 decreases-loop rows store reader request asked position₀ position = asked - position
@@ -26,9 +26,9 @@ start_of c = c.before.before.before.before.before
 
 -- whether the field asked for at a position refuses
 abbrev refused : tie.At-loop invariant-loop decreases-loop → ℕ → Bool
-refused c = let a = (start_of c).args in refusesAt (lattice a.rows.now) a.reader (store_of a.store.now) a.request.now
+refused c = let a = (start_of c).args in refuses_at (lattice a.rows.now) a.reader (store_of a.store.now) a.request.now
 
-inside : (c : tie.In-loop invariant-loop decreases-loop) → c.before.loop.position < askedCount (start_of c.before).args.request.now
+inside : (c : tie.In-loop invariant-loop decreases-loop) → c.before.loop.position < asked_count (start_of c.before).args.request.now
 inside c = omega (arith, c.loop-test.true, c.before.before.count.ensures.0)
 
 refused-is : (c : tie.After-refuses invariant-loop decreases-loop) →
@@ -40,19 +40,19 @@ refused-is c =
     sym (c.refuses.ensures ∙ ap (λ (i : ℕ). refuses (lattice a.rows.now) a.reader (store_of a.store.now i)) field.field_at.ensures.0)
 
 count-requires : tie.Need-count-requires invariant-loop decreases-loop
-count-requires c κs = omega (arith, (right-has _ _ c.before.before.before.requires.request-right).size)
+count-requires c κs = omega (arith, (right_has _ _ c.before.before.before.requires.right_request).size)
 
 loop-holds : tie.Need-loop-init invariant-loop decreases-loop
 loop-holds c = (omega arith, none-at-first _)
 
 field-at-requires : tie.Need-field-at-requires invariant-loop decreases-loop
-field-at-requires c κs = omega (arith, inside c, (right-has _ _ (start_of c.before).pre.request-right).size)
+field-at-requires c κs = omega (arith, inside c, (right_has _ _ (start_of c.before).pre.right_request).size)
 
 refuses-requires : tie.Need-refuses-requires invariant-loop decreases-loop
 refuses-requires c κs = faces (start_of c.before.before).pre _ _ (inside c.before) c.field_at.ensures.0
 
 returns : tie.Need-returns invariant-loop decreases-loop
-unfolding firstRefusing
+unfolding first_refusing
 returns c =
     let in-loop = c.before.before.before in
     sym (first-is _ _ _ (inside in-loop) in-loop.before.loop.invariant.1 (refused-is c.before ∙ c.if1.true))
@@ -64,7 +64,7 @@ loop-again c =
     (omega arith, none_more _ _ in-loop.before.loop.invariant.1 (refused-is c.before ∙ c.if1.false))
 
 returns-2 : tie.Need-returns-2 invariant-loop decreases-loop
-unfolding firstRefusing
+unfolding first_refusing
 returns-2 c =
     let at-loop = c.before in
     let asked = at-loop.before.count.ensures.0 in

@@ -7,7 +7,7 @@ use lib.Seq.{sets}
 use Rattle.value.specs.Bytes.{of_bits, bytes_of}
 use Rattle.value.specs.declared.Value.{Value}
 use Rattle.store.specs.Stores.{cell_at}
-use Rattle.handout.proofs.Alike.{shown-elsewhere}
+use Rattle.handout.proofs.Alike.{shown_elsewhere}
 use Rattle.handout.proofs.Answering.{shown-below}
 use Rattle.handout.proofs.answers.show.Statement.{statement}
 use Rattle.handout.proofs.answers.show.Tie as tie
@@ -38,7 +38,7 @@ returns-2 c =
     let a = (start_of order).args in
     call.put-entry2.ensures
     ∙ ap (λ (z : ℤ). sets a.out.now a.at (0 ∷ bytes_of z)) zero.of-bits.ensures
-    ∙ ap (sets a.out.now a.at) (sym (shown-elsewhere _ _ _ _ (sym order.at-or-below.ensures ∙ else.if1.false)))
+    ∙ ap (sets a.out.now a.at) (sym (shown_elsewhere _ _ _ _ (sym order.at-or-below.ensures ∙ else.if1.false)))
 
 pub show-spec : {M : Type 1} → statement M
 show-spec =

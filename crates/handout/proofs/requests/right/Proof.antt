@@ -6,25 +6,25 @@ use mathlib.Core.Path.{sym}
 use mathlib.Core.List.{List}
 use borrow.Author.Tests.{lt-ltb}
 use Rattle.basis.proofs.Tests.{all_none, all_more, all_done}
-use Rattle.handout.specs.Requests.{askedCount, fieldAsked}
-use Rattle.handout.proofs.Requesting.{fieldsKnown, is_right, is-wrong}
+use Rattle.handout.specs.Requests.{asked_count, field_asked}
+use Rattle.handout.proofs.Requesting.{fields_known, is_right, is_wrong}
 use Rattle.handout.proofs.requests.right.Statement.{statement}
 use Rattle.handout.proofs.requests.right.Tie as tie
 
 abbrev invariant-loop : tie.invariant-loop
-invariant-loop request fields asked i₀ i = fieldsKnown fields request i
+invariant-loop request fields asked i₀ i = fields_known fields request i
 
 abbrev decreases-loop : tie.decreases-loop
 decreases-loop request fields asked i₀ i = asked - i
 
 returns : tie.Need-returns invariant-loop decreases-loop
-returns c = sym (is-wrong _ _ (λ r. omega (arith, r.size, c.if1.true)))
+returns c = sym (is_wrong _ _ (λ r. omega (arith, r.size, c.if1.true)))
 
 returns-2 : tie.Need-returns-2 invariant-loop decreases-loop
-returns-2 c = sym (is-wrong _ _ (λ r. omega (arith, r.size, c.if2.true, c.before.count.ensures.0)))
+returns-2 c = sym (is_wrong _ _ (λ r. omega (arith, r.size, c.if2.true, c.before.count.ensures.0)))
 
 returns-3 : tie.Need-returns-3 invariant-loop decreases-loop
-returns-3 c = sym (is-wrong _ _ (λ r. omega (arith, r.few, c.if3.true, c.before.before.count.ensures.0)))
+returns-3 c = sym (is_wrong _ _ (λ r. omega (arith, r.few, c.if3.true, c.before.before.count.ensures.0)))
 
 loop-holds : tie.Need-loop-init invariant-loop decreases-loop
 loop-holds c = all_none _
@@ -44,15 +44,15 @@ returns-4 c =
     let in-loop = field.before in
     let at-loop = in-loop.before in
     let asked = at-loop.before.before.before in
-    let inside : at-loop.loop.i < askedCount (request-at at-loop) = omega (arith, in-loop.loop-test.true, asked.count.ensures.0) in
-    sym (is-wrong _ _ (λ r. omega (arith, r.known _ inside, field.field_at.ensures.0, c.if4.true)))
+    let inside : at-loop.loop.i < asked_count (request-at at-loop) = omega (arith, in-loop.loop-test.true, asked.count.ensures.0) in
+    sym (is_wrong _ _ (λ r. omega (arith, r.known _ inside, field.field_at.ensures.0, c.if4.true)))
 
 loop-again : tie.Need-loop-preserved invariant-loop decreases-loop
 loop-again c =
     let field = c.before in
     let at-loop = field.before.before in
     let start = at-loop.before.before.before.before.before.before in
-    let less : fieldAsked (request-at at-loop) at-loop.loop.i < start.args.fields = omega (arith, field.field_at.ensures.0, c.if4.false) in
+    let less : field_asked (request-at at-loop) at-loop.loop.i < start.args.fields = omega (arith, field.field_at.ensures.0, c.if4.false) in
     all_more _ _ at-loop.loop.invariant (lt-ltb _ _ less)
 
 returns-5 : tie.Need-returns-5 invariant-loop decreases-loop

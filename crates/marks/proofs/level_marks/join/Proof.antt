@@ -7,10 +7,10 @@ use mathlib.Core.Bool.{Bool, ◌||◌}
 use Rattle.levels.specs.Levels.{join_of}
 use Rattle.levels.specs.Lattice.{lattice}
 use Rattle.levels.proofs.Facts.{facts}
-use Rattle.store.specs.Marks.{levelOf, isPartial, mark_of}
+use Rattle.store.specs.Marks.{level_of, is_partial, mark_of}
 use Rattle.store.proofs.Marks.{known_is, known_at, mark-whole}
 use Rattle.rules.specs.LevelMarks.{joined}
-use Rattle.marks.proofs.Marking.{joined_same, joined-whole, joined-partial}
+use Rattle.marks.proofs.Marking.{joined_same, joined-whole, joined_partial}
 use Rattle.marks.proofs.level_marks.join.Statement.{statement}
 use Rattle.marks.proofs.level_marks.join.Tie as tie
 
@@ -43,11 +43,11 @@ start_of c = c.before.before.before.before.before
 level-few : (c : tie.After-join) → c.join.result < 16
 level-few c = let start = start_of c in omega (arith, c.join.ensures.1, (facts start.args.rows.now start.pre.order).few)
 
-level-is : (c : tie.After-join) → let a = (start_of c).args in c.join.result ≡ join_of a.rows.now (levelOf (mark_of a.m)) (levelOf (mark_of a.k))
+level-is : (c : tie.After-join) → let a = (start_of c).args in c.join.result ≡ join_of a.rows.now (level_of (mark_of a.m)) (level_of (mark_of a.k))
 level-is c = rw (c.before.before.level-of.ensures.0, c.before.level-of2.ensures.0) at c.join.ensures.0
 
 -- whether either mark is partial, as the code asked
-either : (c : tie.After-is-partial2) → let a = (start_of c.before.before).args in (c.before.is-partial.result || c.is-partial2.result) ≡ (isPartial (mark_of a.m) || isPartial (mark_of a.k))
+either : (c : tie.After-is-partial2) → let a = (start_of c.before.before).args in (c.before.is-partial.result || c.is-partial2.result) ≡ (is_partial (mark_of a.m) || is_partial (mark_of a.k))
 either c = ap₂ (λ (b d : Bool). b || d) c.before.is-partial.ensures c.is-partial2.ensures
 
 returns-2 : tie.Need-returns-2
@@ -57,7 +57,7 @@ returns-2 c =
     let join = asked.before.before in
     let p = (start_of join).requires in
     let (made, few) = c.partial-at.ensures in
-    (made ∙ joined-partial _ _ _ p.first p.second _ (level-is join) (sym (either asked) ∙ then.if2.true), known_at _ _ made few join.join.ensures.1)
+    (made ∙ joined_partial _ _ _ p.first p.second _ (level-is join) (sym (either asked) ∙ then.if2.true), known_at _ _ made few join.join.ensures.1)
 
 returns-3 : tie.Need-returns-3
 returns-3 c =

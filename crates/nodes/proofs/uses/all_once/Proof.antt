@@ -7,7 +7,7 @@ use mathlib.Core.Path.{◌≡◌, sym, ap, ◌∙◌}
 use lib.Dec.{eqb}
 use lib.ListN.{get_or}
 use Rattle.basis.specs.Tests.{all}
-use Rattle.basis.proofs.Tests.{all_none, all-suc}
+use Rattle.basis.proofs.Tests.{all_none, all_suc}
 use Rattle.nodes.proofs.uses.all_once.Statement.{statement}
 use Rattle.nodes.proofs.uses.all_once.Tie as tie
 
@@ -21,7 +21,7 @@ loop-holds : tie.Need-loop-init invariant-loop decreases-loop
 loop-holds c = (omega arith, sym (all_none _))
 
 loop-again : tie.Need-loop-preserved invariant-loop decreases-loop
-loop-again c = (omega arith, rw c.before.before.loop.invariant.1 (sym (all-suc _ _)))
+loop-again c = (omega arith, rw c.before.before.loop.invariant.1 (sym (all_suc _ _)))
 
 returns : tie.Need-returns invariant-loop decreases-loop
 returns c =

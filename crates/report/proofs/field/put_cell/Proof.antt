@@ -1,13 +1,13 @@
 -- The mark, a blank and the value, one after another.
 use borrow.Author.Rules.{rules}
 use Rattle.store.specs.Stores.{cell_at}
-use Rattle.report.specs.Text.{cellText}
+use Rattle.report.specs.Text.{cell_text}
 use Rattle.report.proofs.Putting.{◌then◌}
 use Rattle.report.proofs.field.put_cell.Statement.{statement}
 use Rattle.report.proofs.field.put_cell.Tie as tie
 
 returns : tie.Need-returns
-unfolding cellText cell_at
+unfolding cell_text cell_at
 returns c =
     let value = c.before.before in
     let blank = value.before.before.before.before.before in

@@ -1,12 +1,12 @@
 -- The parts of a line, one after another.
 use borrow.Author.Rules.{rules}
-use Rattle.report.specs.Text.{fieldLine}
+use Rattle.report.specs.Text.{field_line}
 use Rattle.report.proofs.Putting.{◌then◌}
 use Rattle.report.proofs.field.put_line.Statement.{statement}
 use Rattle.report.proofs.field.put_line.Tie as tie
 
 returns : tie.Need-returns
-unfolding fieldLine
+unfolding field_line
 returns c =
     let end = c.before.before in
     let cell = end.before.before.before.before in

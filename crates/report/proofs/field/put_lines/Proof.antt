@@ -6,13 +6,13 @@ use native.Mathlib.Nat.{le_antisymm}
 use mathlib.Core.Path.{sym}
 use lib.ListN.{length}
 use Rattle.report.specs.Inside.Putting.{Put}
-use Rattle.report.specs.Text.{each, fieldLine}
+use Rattle.report.specs.Text.{each, field_line}
 use Rattle.report.proofs.Putting.{put-none, put_as, ◌then◌, each_none, each_more}
 use Rattle.report.proofs.field.put_lines.Statement.{statement}
 use Rattle.report.proofs.field.put_lines.Tie as tie
 
 abbrev invariant-loop : tie.invariant-loop
-invariant-loop out₀ at fields store n end₀ i₀ out end i = (i ≤ length fields / 8) × Put out₀ out at (each i (fieldLine fields store)) end
+invariant-loop out₀ at fields store n end₀ i₀ out end i = (i ≤ length fields / 8) × Put out₀ out at (each i (field_line fields store)) end
 
 abbrev decreases-loop : tie.decreases-loop
 decreases-loop out₀ at fields store n end₀ i₀ out end i = length fields / 8 - i

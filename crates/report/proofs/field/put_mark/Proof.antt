@@ -2,7 +2,7 @@
 use borrow.Author.Rules.{rules}
 use mathlib.Core.Path.{sym, ◌∙◌}
 use Rattle.report.proofs.Putting.{put_as, ◌then◌}
-use Rattle.report.proofs.Fields.{whole-text, partial-text}
+use Rattle.report.proofs.Fields.{whole_text, partial_text}
 use Rattle.report.proofs.field.put_mark.Statement.{statement}
 use Rattle.report.proofs.field.put_mark.Tie as tie
 
@@ -12,7 +12,7 @@ returns c =
     let tested = word.before.before.before in
     let level = tested.before.before.before.before in
     let says = sym tested.before.is-partial.ensures ∙ tested.if1.true in
-    put_as (partial-text _ level.before.level-said.ensures says) (level.put-part.ensures then word.put-text.ensures)
+    put_as (partial_text _ level.before.level-said.ensures says) (level.put-part.ensures then word.put-text.ensures)
 
 returns-2 : tie.Need-returns-2
 returns-2 c =
@@ -20,7 +20,7 @@ returns-2 c =
     let tested = word.before.before.before in
     let level = tested.before.before.before.before in
     let says = sym tested.before.is-partial.ensures ∙ tested.if1.false in
-    put_as (whole-text _ level.before.level-said.ensures says) (level.put-part.ensures then word.put-text2.ensures)
+    put_as (whole_text _ level.before.level-said.ensures says) (level.put-part.ensures then word.put-text2.ensures)
 
 pub put-mark-spec : {M : Type 1} → statement M
 put-mark-spec =

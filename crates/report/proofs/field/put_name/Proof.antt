@@ -4,15 +4,15 @@ use Prim.Native.Nat.{◌-◌, ◌≤◌}
 use native.Mathlib.Omega.{arith}
 use native.Mathlib.Nat.{le_antisymm}
 use mathlib.Core.Path.{sym}
-use Rattle.names.specs.Names.{nameByte}
+use Rattle.names.specs.Names.{name_byte}
 use Rattle.report.specs.Inside.Putting.{Put}
-use Rattle.report.specs.Text.{each, withoutZero, name_of}
+use Rattle.report.specs.Text.{each, without_zero, name_of}
 use Rattle.report.proofs.Putting.{put-none, put_as, ◌then◌, each_none, each_more}
 use Rattle.report.proofs.field.put_name.Statement.{statement}
 use Rattle.report.proofs.field.put_name.Tie as tie
 
 abbrev invariant-loop : tie.invariant-loop
-invariant-loop out₀ at fields i name end₀ j₀ out end j = (j ≤ 8) × Put out₀ out at (each j (λ k. withoutZero (nameByte fields i k))) end
+invariant-loop out₀ at fields i name end₀ j₀ out end j = (j ≤ 8) × Put out₀ out at (each j (λ k. without_zero (name_byte fields i k))) end
 
 abbrev decreases-loop : tie.decreases-loop
 decreases-loop out₀ at fields i name end₀ j₀ out end j = 8 - j

@@ -4,12 +4,12 @@ use Prim.Native.Nat.{◌-◌}
 use native.Mathlib.Omega.{arith}
 use mathlib.Core.Path.{◌≡◌}
 use Rattle.basis.specs.Bytes.{word_at}
-use Rattle.report.specs.File.{sheetIn}
+use Rattle.report.specs.File.{sheet_in}
 use Rattle.report.proofs.file.sheet.Statement.{statement}
 use Rattle.report.proofs.file.sheet.Tie as tie
 
 returns : tie.Need-returns
-unfolding sheetIn
+unfolding sheet_in
 returns c =
     let file = c.before.before.before.args.file.now in
     let bytes : c.before.sheet-end.result - 7 ≡ word_at file 5 = omega arith in

@@ -4,7 +4,7 @@ use Prim.Native.Nat.{ℕ, ◌<◌}
 use native.Mathlib.Omega.{arith}
 use mathlib.Core.Path.{sym}
 use Rattle.report.proofs.Putting.{put_as, ◌then◌}
-use Rattle.report.proofs.Digits.{decimal-one, decimal-more}
+use Rattle.report.proofs.Digits.{decimal_one, decimal_more}
 use borrow.Fn.Kinds.{In}
 use borrow.Fn.PlainCycle.{Measures, is, falls, and}
 use Rattle.report.proofs.number.put_decimal.Reads as put-decimal
@@ -30,13 +30,13 @@ callees t = (put_byte.Asked, put_byte.Learnt, lower t, put-decimal.Post)
 returns : (t : ℕ) → lts.Need-returns (callees t) (at t) put-decimal.Post
 returns t c =
     let called = c.before.before in
-    put_as (sym (decimal-one _ called.before.before.if1.true)) called.put_byte.ensures
+    put_as (sym (decimal_one _ called.before.before.if1.true)) called.put_byte.ensures
 
 returns-2 : (t : ℕ) → lts.Need-returns-2 (callees t) (at t) put-decimal.Post
 returns-2 t c =
     let last = c.before.before in
     let called = last.before.before.before.before in
-    put_as (sym (decimal-more _ called.before.before.if1.false)) (called.put-decimal.ensures then last.put-byte2.ensures)
+    put_as (sym (decimal_more _ called.before.before.if1.false)) (called.put-decimal.ensures then last.put-byte2.ensures)
 
 pub +put-decimal-spec : {M : Type 1} → statement M
 +put-decimal-spec =

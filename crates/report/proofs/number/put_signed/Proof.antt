@@ -4,7 +4,7 @@ use mathlib.Core.Path.{sym}
 use mir.Syntax.{w32}
 use mir.Val.{SFits}
 use Rattle.report.proofs.Putting.{put_as, ◌then◌}
-use Rattle.report.proofs.Digits.{signed-whole, signed-minus}
+use Rattle.report.proofs.Digits.{signed-whole, signed_minus}
 use Rattle.report.proofs.number.put_signed.Statement.{statement}
 use Rattle.report.proofs.number.put_signed.Tie as tie
 
@@ -23,7 +23,7 @@ returns-2 c =
     let called = c.before.before in
     let minus = called.before.before.before.before in
     let above = minus.before.before in
-    let is = signed-minus _ (fits above.before.before.before) above.before.bits.ensures above.if1.false in
+    let is = signed_minus _ (fits above.before.before.before) above.before.bits.ensures above.if1.false in
     put_as (sym is) (minus.put_byte.ensures then called.put-decimal2.ensures)
 
 pub put-signed-spec : {M : Type 1} → statement M

@@ -3,15 +3,15 @@ use borrow.Author.Rules.{rules}
 use Prim.Native.Nat.{◌≤◌}
 use native.Mathlib.Omega.{arith}
 use lib.ListN.{length}
-use Rattle.report.specs.Text.{doneText}
-use Rattle.report.proofs.Putting.{◌then◌, put-begins}
+use Rattle.report.specs.Text.{done_text}
+use Rattle.report.proofs.Putting.{◌then◌, put_begins}
 use Rattle.report.proofs.Printing.{done-length}
 use Rattle.report.proofs.outcome.print_done.Statement.{statement}
 use Rattle.report.proofs.outcome.print_done.Tie as tie
 
 room : (c : tie.After-shared-slice-known2) →
     let args = c.before.before.args in
-    length (doneText args.units args.fields.now args.store.now) ≤ length args.out.now
+    length (done_text args.units args.fields.now args.store.now) ≤ length args.out.now
 room c =
     let start = c.before.before in
     let args = start.args in
@@ -20,13 +20,13 @@ room c =
     omega (arith, start.requires.1, long)
 
 returns : tie.Need-returns
-unfolding doneText
+unfolding done_text
 returns c =
     let lines = c.before.before in
     let end = lines.before.before.before.before in
     let units = end.before.before.before.before in
     let done = units.before.before.before.before in
-    put-begins
+    put_begins
     (done.put-text.ensures then units.put-part.ensures then end.put_byte.ensures then lines.put-lines.ensures)
     (room done.before.before.before.before)
 

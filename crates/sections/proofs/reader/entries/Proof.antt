@@ -11,10 +11,10 @@ use denote.RattleType.{owns}
 use denote.Plain.{uint_vals, uint_Tells}
 use denote.Builtin.{u8}
 use denote.Triple.Statement.{Triple}
-use Rattle.sections.specs.Sections.{entriesOf}
+use Rattle.sections.specs.Sections.{entries_of}
 use Rattle.sections.specs.Inside.Reader.{rest_of}
 use Rattle.sections.proofs.Steps.{Machine, machine, Met, Walk, entry, proves, knows, begins, hands, asks, takes}
-use Rattle.sections.proofs.Readers.{sheet-val, sliced, reader-vals, reader-tells, typed, parts}
+use Rattle.sections.proofs.Readers.{sheet_val, sliced, reader_vals, reader-tells, typed, parts}
 use Rattle.sections.proofs.reader.SectionReader.TheLaws as T'
 use Rattle.sections.specs.contracts.section.entries_at as callee
 use Rattle.sections.proofs.section.entries_at.Symbol as callee-def
@@ -25,18 +25,18 @@ use Rattle.sections.proofs.reader.entries.Statement as stated
 use Rattle.sections.proofs.reader.entries.Code as code
 
 module _ {M : Type 1} (𝓤 : Ura M) (H : Heap 𝓤) (𝓦 : Machine {𝓤 = 𝓤} _) where
-  walk : Triple 𝓤 (𝓦.C callee-def.name) (Met 𝓤 H 𝓦 callee.ended (callee.clauses {𝓤 = 𝓤} _)) → Walk 𝓤 H 𝓦 entries.ended (entries.clauses {𝓤 = 𝓤} _) code.function (λ κs. (reader-vals κs, (uint_vals w8, tt)))
+  walk : Triple 𝓤 (𝓦.C callee-def.name) (Met 𝓤 H 𝓦 callee.ended (callee.clauses {𝓤 = 𝓤} _)) → Walk 𝓤 H 𝓦 entries.ended (entries.clauses {𝓤 = 𝓤} _) code.function (λ κs. (reader_vals κs, (uint_vals w8, tt)))
   walk known (κ, _) (q, _) bounds (d, (size, _)) g are =
       let wt = typed 𝓦.W κ (named 0) d _ are.0 in
       let y : (Met 𝓤 H 𝓦 entries.ended (entries.clauses {𝓤 = 𝓤} _)).Ghost = (((κ, tt), (q, tt), tt, (d, (size, tt)), (T'.lowered d ∷ [], (vint w8 size ∷ [], tt))), tt) in
-      let to : (Met 𝓤 H 𝓦 callee.ended (callee.clauses {𝓤 = 𝓤} _)).Ghost = (((κ, tt), (q, tt), tt, (d.sheet, (d.at, (size, tt))), (sheet-val d.sheet ∷ [], (vint w64 d.at ∷ [], (vint w8 size ∷ [], tt)))), tt) in
+      let to : (Met 𝓤 H 𝓦 callee.ended (callee.clauses {𝓤 = 𝓤} _)).Ghost = (((κ, tt), (q, tt), tt, (d.sheet, (d.at, (size, tt))), (sheet_val d.sheet ∷ [], (vint w64 d.at ∷ [], (vint w8 size ∷ [], tt)))), tt) in
       qed 𝓦.W (entry 𝓤 H 𝓦 entries.ended (entries.clauses {𝓤 = 𝓤} _) y ∷ []) ∵ begins ! _ _ code.function _ _ (λ bs. params1 ! $ pass1 ! (init ! 3 refl wt) $ pass1 ! (init ! 5 refl (tt, record { fits = are.1.0.1 })) $ pass0 ! $
       parts 𝓦 κ q ! d (owns (u8 ∷ []) (size, tt) (vint w8 size ∷ [], tt)) wt refl refl refl refl refl refl $
-      asks 𝓦 callee.ended (callee.clauses {𝓤 = 𝓤} _) ! known to (λ v. v.now ≡ entriesOf size (rest_of d)) (λ v ws. refl) (and_then ! (takes ! 2 refl) (and_then ! (takes ! 2 refl) (and_then ! (takes ! 2 refl) (no_more !)))) (λ u v e has.
+      asks 𝓦 callee.ended (callee.clauses {𝓤 = 𝓤} _) ! known to (λ v. v.now ≡ entries_of size (rest_of d)) (λ v ws. refl) (and_then ! (takes ! 2 refl) (and_then ! (takes ! 2 refl) (and_then ! (takes ! 2 refl) (no_more !)))) (λ u v e has.
       hands 𝓦 entries.ended (entries.clauses {𝓤 = 𝓤} _) ! y _ refl refl e (sliced 𝓦.W κ v u has) _ refl))
 
 pub entries-spec : {M : Type 1} → stated.statement M
 unfolding code.routine
 entries-spec 𝓤 𝓛 𝓜 𝓡 =
-    proves 𝓛 𝓜 𝓡 code.env entries.ended (entries.clauses 𝓛) key.name code.function (code.unfolded 𝓤 𝓛.H 𝓜 𝓡) (λ κs. (reader-vals κs, (uint_vals w8, tt))) (λ κs. (reader-tells κs, (uint_Tells w8, tt))) (walk 𝓤 𝓛.H (machine 𝓛 𝓜 𝓡 code.env)
+    proves 𝓛 𝓜 𝓡 code.env entries.ended (entries.clauses 𝓛) key.name code.function (code.unfolded 𝓤 𝓛.H 𝓜 𝓡) (λ κs. (reader_vals κs, (uint_vals w8, tt))) (λ κs. (reader-tells κs, (uint_Tells w8, tt))) (walk 𝓤 𝓛.H (machine 𝓛 𝓜 𝓡 code.env)
     (knows 𝓛 𝓜 𝓡 code.env callee.ended (callee.clauses 𝓛) callee-def.name callee-def.routine code.calls-sections::section::entries-at (callee-thm.met 𝓤 𝓛 𝓜 𝓡)))

@@ -2,12 +2,12 @@
 use borrow.Author.Rules.{rules}
 use native.Mathlib.Omega.{arith}
 use lib.ListN.{length-drop}
-use Rattle.sections.specs.Sections.{offsetAfter}
+use Rattle.sections.specs.Sections.{offset_after}
 use Rattle.sections.proofs.section.offset_after.Statement.{statement}
 use Rattle.sections.proofs.section.offset_after.Tie as tie
 
 returns : tie.Need-returns
-unfolding offsetAfter
+unfolding offset_after
 returns c = omega arith
 
 add-result : tie.Need-overflow-add-result
@@ -17,7 +17,7 @@ add-result c =
     omega (arith, length-drop start.args.at start.args.sheet.now)
 
 returns-2 : tie.Need-returns-2
-unfolding offsetAfter
+unfolding offset_after
 returns-2 c =
     let start = c.before.before.before.before in
     let end = rw c.before.rest_at.ensures at c.part-end.ensures in

@@ -3,7 +3,7 @@ use borrow.Author.Rules.{rules}
 use Prim.Native.Nat.{ℕ, ◌+◌, ◌*◌, ◌<◌}
 use native.Mathlib.Omega.{arith}
 use mathlib.Core.Path.{ap}
-use Rattle.sections.specs.Sections.{sectionEnd}
+use Rattle.sections.specs.Sections.{section_end}
 use Rattle.sections.proofs.Parts.{few_bytes}
 use Rattle.sections.proofs.section.section_end.Statement.{statement}
 use Rattle.sections.proofs.section.section_end.Tie as tie
@@ -18,7 +18,7 @@ add-result : tie.Need-overflow-add-result
 add-result c = omega (arith, few c)
 
 returns : tie.Need-returns
-unfolding sectionEnd
+unfolding section_end
 returns c = ap (λ (count : ℕ). 2 + count * c.before.before.args.size) c.word.ensures.0
 
 pub section-end-spec : {M : Type 1} → statement M

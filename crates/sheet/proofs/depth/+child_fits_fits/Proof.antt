@@ -7,8 +7,8 @@ use borrow.Author.Tests.{not-true, not-false, le-leb}
 use borrow.Fn.Kinds.{In}
 use borrow.Fn.PlainCycle.{Measures, is, falls, and}
 use lib.Dec.{leb}
-use Rattle.nodes.specs.Nodes.{kind_at, heldIn, isChild}
-use Rattle.sheet.proofs.Depths.{no-child, a-child, some-depth, too-deep, one-decides, child-node}
+use Rattle.nodes.specs.Nodes.{kind_at, held_in, is_child}
+use Rattle.sheet.proofs.Depths.{no_child, a_child, some-depth, too_deep_lem, one_decides, child_node}
 use Rattle.sheet.proofs.depth.child_fits.Reads as child_fits
 use Rattle.sheet.proofs.depth.child_fits.Kinds as child-fits-kinds
 use Rattle.sheet.proofs.depth.+child_fits_fits.Lts-child_fits as child-lts
@@ -51,7 +51,7 @@ callees t = (child-lower t, child_fits.Post)
 -- whether the slot holds a child, as the code asked
 asked : (t : ℕ) (c : child-lts.After-is-child (child-callees t) (child-at t) child_fits.Post) →
     let args = c.before.before.before.before.args in
-    isChild (heldIn (kind_at args.nodes.now.now args.n) args.k) ≡ c.is-child.result
+    is_child (held_in (kind_at args.nodes.now.now args.n) args.k) ≡ c.is-child.result
 asked t c = sym (rw (c.before.held_in.ensures, c.before.before.kind-of.ensures) at c.is-child.ensures)
 
 kind-of-requires : (t : ℕ) → child-lts.Need-kind-of-requires (child-callees t) (child-at t) child_fits.Post
@@ -69,7 +69,7 @@ fits-requires : (t : ℕ) → child-lts.Need-fits-requires (child-callees t) (ch
 fits-requires t c κs =
     let then = c.before.before in
     let (measure, pre) = then.before.before.before.before.before.requires in
-    let (below, inner) = child-node pre.0 _ pre.1 (asked t then.before ∙ then.if1.true) in
+    let (below, inner) = child_node pre.0 _ pre.1 (asked t then.before ∙ then.if1.true) in
     rw c.slot.ensures.0 (omega arith, inner)
 
 child-returns : (t : ℕ) → child-lts.Need-returns (child-callees t) (child-at t) child_fits.Post
@@ -77,12 +77,12 @@ child-returns t c =
     let then = c.before.before.before in
     let most = then.before.before.before.before.before.args.most in
     λ values. rw c.before.slot.ensures.0 at (c.fits2.ensures values)
-    ∙ ap (λ (d : ℕ). leb d most) (sym (a-child values _ _ _ (asked t then.before ∙ then.if1.true)))
+    ∙ ap (λ (d : ℕ). leb d most) (sym (a_child values _ _ _ (asked t then.before ∙ then.if1.true)))
 
 child-returns-2 : (t : ℕ) → child-lts.Need-returns-2 (child-callees t) (child-at t) child_fits.Post
 child-returns-2 t c =
     let most = c.before.before.before.before.before.args.most in
-    λ values. sym (ap (λ (d : ℕ). leb d most) (no-child values _ _ _ (asked t c.before ∙ c.if1.false)) ∙ le-leb 0 most zero-le)
+    λ values. sym (ap (λ (d : ℕ). leb d most) (no_child values _ _ _ (asked t c.before ∙ c.if1.false)) ∙ le-leb 0 most zero-le)
 
 -- ── the three places of a node ──────────────────────────────────────────────────────────────
 
@@ -103,7 +103,7 @@ returns-2 : (t : ℕ) → lts.Need-returns-2 (callees t) (at t) fits.Post
 returns-2 t c =
     let one = c.before.before in
     let node = one.before.requires.1 in
-    λ values. sym (too-deep values _ node.formed.nodes _ node.inside _ (some t one) 0 (omega arith) (sym (c.before.child_fits.ensures values) ∙ not-true _ c.if2.true))
+    λ values. sym (too_deep_lem values _ node.formed.nodes _ node.inside _ (some t one) 0 (omega arith) (sym (c.before.child_fits.ensures values) ∙ not-true _ c.if2.true))
 
 child-fits-requires-2 : (t : ℕ) → lts.Need-child-fits-requires-2 (callees t) (at t) fits.Post
 child-fits-requires-2 t c κs =
@@ -114,7 +114,7 @@ returns-3 : (t : ℕ) → lts.Need-returns-3 (callees t) (at t) fits.Post
 returns-3 t c =
     let one = c.before.before.before.before in
     let node = one.before.requires.1 in
-    λ values. sym (too-deep values _ node.formed.nodes _ node.inside _ (some t one) 2 (omega arith) (sym (c.before.child-fits2.ensures values) ∙ not-true _ c.if3.true))
+    λ values. sym (too_deep_lem values _ node.formed.nodes _ node.inside _ (some t one) 2 (omega arith) (sym (c.before.child-fits2.ensures values) ∙ not-true _ c.if3.true))
 
 child-fits-requires-3 : (t : ℕ) → lts.Need-child-fits-requires-3 (callees t) (at t) fits.Post
 child-fits-requires-3 t c κs =
@@ -128,7 +128,7 @@ returns-4 t c =
     let one = two.before.before in
     let node = one.before.requires.1 in
     λ values. c.child-fits3.ensures values
-    ∙ one-decides values _ node.formed.nodes _ node.inside _ (some t one)
+    ∙ one_decides values _ node.formed.nodes _ node.inside _ (some t one)
     (sym (two.before.child_fits.ensures values) ∙ not-false _ two.if2.false)
     (sym (three.before.child-fits2.ensures values) ∙ not-false _ three.if3.false)
 

@@ -5,12 +5,12 @@ use lib.IntN.{pos, nat_abs}
 use mir.Syntax.{w64}
 use mir.Val.{of_z}
 use Rattle.value.proofs.Wide.{Holds, holds_fits}
-use Rattle.value.proofs.Rounding.{divisor-above, divided, rounded}
+use Rattle.value.proofs.Rounding.{divisor_above, divided, rounded}
 use Rattle.value.proofs.Value.floor.Statement.{statement}
 use Rattle.value.proofs.Value.floor.Tie as tie
 
 divisor : (s : tie.Start) → (0 < of_z w64 s.args.b) × Holds s.args.b (pos (nat_abs s.args.b))
-divisor s = divisor-above s.args.b s.ranges.b s.requires
+divisor s = divisor_above s.args.b s.ranges.b s.requires
 
 div-turned : tie.Need-nonzero-div-turned
 div-turned c = let b = divisor c.before in (b.0, holds_fits (divided c.before.ranges.x b.1 c.turned.ensures))

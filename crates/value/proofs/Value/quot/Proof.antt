@@ -1,12 +1,12 @@
 -- A divisor below zero is negated, and the dividend with it.
 use borrow.Author.Rules.{rules}
 use Rattle.value.proofs.Wide.{held}
-use Rattle.value.proofs.Rounding.{divides-above, quotient_is}
+use Rattle.value.proofs.Rounding.{divides_above, quotient_is}
 use Rattle.value.proofs.Value.quot.Statement.{statement}
 use Rattle.value.proofs.Value.quot.Tie as tie
 
 floor-requires : tie.Need-floor-requires
-floor-requires c κs = divides-above c.before.before.wide.ensures c.signed2.ensures c.before.before.before.requires
+floor-requires c κs = divides_above c.before.before.wide.ensures c.signed2.ensures c.before.before.before.requires
 
 returns : tie.Need-returns
 returns c =
