@@ -4,7 +4,7 @@ ghost use Rattle.basis.specs.Answer.{success, refusal, word_of, answer_in};
 
 use crate::numbers::DONE;
 
-#[derive(Drop)]
+#[derive(Clone, Copy)]
 pub struct Answer {
     pub number: u8,
     pub place: u16,

@@ -1,4 +1,6 @@
 // What every crate says alike: numbers of two bytes, tests of all numbers below another, the names of document 01's refusals, and what a call answers.
+#![tactic(auto)]
+
 pub mod answer;
 pub mod numbers;
 

@@ -1,5 +1,7 @@
 // The exported calls, on numbers and byte slices. Each answers one word: number, place and units. `specs/Calls` says what each call does; lent memory
 // that a call only reads stays as it was.
+#![tactic(auto)]
+
 pub mod checks;
 pub mod runs;
 
@@ -10,25 +12,17 @@ use basis::answer::{pack, success};
 use basis::numbers::DONE;
 
 // Judges a sheet.
-#[unsafe(no_mangle)]
-pub extern "C" fn beltuqash_load(sheet: &[u8]) -> u64
+pub fn beltuqash_load(sheet: &[u8]) -> u64
     ensures tells { Tells (load sheet.now) result }
-    ensures sheet_value { sheet.now ≡ sheet.now }
+    ensures kept { sheet.exit.now ≡ sheet.entry.now }
 {
     pack(checks::judge_sheet(sheet))
 }
 
 // Runs a sheet from a store in mode 0 (strict) or 1 (permissive), and writes the final store.
-#[unsafe(no_mangle)]
-pub extern "C" fn beltuqash_run(
-    sheet: &[u8],
-    store: &[u8],
-    mode: u32,
-    fuel: u32,
-    out: &mut [u8],
-) -> u64
+pub fn beltuqash_run(sheet: &[u8], store: &[u8], mode: u32, fuel: u32, out: &mut [u8]) -> u64
     ensures yields { Yields (run sheet.now store.now mode fuel out.old) result out.new }
-    ensures sheet_value { (sheet.now ≡ sheet.now) × (store.now ≡ store.now) }
+    ensures kept { (sheet.exit.now ≡ sheet.entry.now) × (store.exit.now ≡ store.entry.now) }
 {
     let refusal = checks::judge_run(sheet, store, mode, fuel, out.len());
     if refusal.number != DONE {
@@ -38,8 +32,7 @@ pub extern "C" fn beltuqash_run(
 }
 
 // Hands a reader what a request asks of a store, and writes the answer.
-#[unsafe(no_mangle)]
-pub extern "C" fn beltuqash_hand_out(
+pub fn beltuqash_hand_out(
     sheet: &[u8],
     store: &[u8],
     reader: u32,
@@ -47,7 +40,7 @@ pub extern "C" fn beltuqash_hand_out(
     out: &mut [u8],
 ) -> u64
     ensures yields { Yields (hand_out sheet.now store.now reader request.now out.old) result out.new }
-    ensures sheet_value { (sheet.now ≡ sheet.now) × (store.now ≡ store.now) × (request.now ≡ request.now) }
+    ensures kept { (sheet.exit.now ≡ sheet.entry.now) × (store.exit.now ≡ store.entry.now) × (request.exit.now ≡ request.entry.now) }
 {
     let refused = checks::judge_hand_out(sheet, store, reader, request, out.len());
     if refused.number != DONE {

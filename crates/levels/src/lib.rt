@@ -1,6 +1,8 @@
 // The order of a sheet's levels, found from the rows alone: no tables, no lists of levels. `rows` is the levels section, 2 bytes a row: bit j of
 // row i is set when level i lies at or below level j. So a row is a set of levels, those at or above its own; the row of a join is the
 // intersection of both rows, and the lowest level's row has every level.
+#![tactic(auto)]
+
 ghost use Rattle.std.specs.Prelude.{◌≡◌, true, ◌-◌, ◌^◌, ◌<◌, ◌≤◌};
 ghost use Rattle.levels.specs.Levels.{bit, count, row_at, below, right, join_of, meet_of, lowest_of, highest_of};
 ghost use Rattle.levels.specs.Inside.Two.{Two};

@@ -1,5 +1,7 @@
 // All that a run asks about marks, by their numbers. The run's own number says which marks they are: `Inside/Meanings`. No other module of a run
 // knows, and other marks are other cases here.
+#![tactic(auto)]
+
 pub mod level_marks;
 pub mod parts;
 pub mod words;

@@ -1,4 +1,6 @@
 // The fields' names: 8 bytes each, filled with zero bytes.
+#![tactic(auto)]
+
 ghost use Rattle.std.specs.Prelude.{◌≡◌};
 ghost use Rattle.names.specs.Names.{NameIn, is_letter, is_digit, is_inner, may_follow, good_name, same_name, new_name, names_right};
 

@@ -1,4 +1,6 @@
 // The nodes: what stands in their slots, and what is wrong with them.
+#![tactic(auto)]
+
 pub mod uses;
 
 ghost use Rattle.std.specs.Prelude.{◌≡◌, true, ℕ, ◌≤◌, ◌<◌, length, get_or};
@@ -11,7 +13,7 @@ use sections::verdict::{Fault, Verdict};
 use uses::count_use;
 
 // What a slot of a node holds.
-#[derive(Drop)]
+#[derive(Clone, Copy)]
 pub enum Held {
     Nothing,
     Constant,

@@ -1,5 +1,7 @@
 // What the runner program reads, taken apart, run, and put into a buffer as text. Each function that puts a text puts it from offset `at` on and
 // gives the offset after it.
+#![tactic(auto)]
+
 pub mod field;
 pub mod file;
 pub mod number;

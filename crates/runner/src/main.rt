@@ -1,5 +1,7 @@
 // Document 01's runner: reads a file from standard input (mode byte, fuel in 4 bytes, sheet length in 2, sheet, store length in 2, store), runs it,
 // and prints `done` and units with a line per field, or `refused`, number, place and units. All that it prints is `report`'s.
+#![tactic(auto)]
+
 use libc::{STDIN_FILENO, STDOUT_FILENO};
 
 fn main() {

@@ -1,5 +1,7 @@
 // The sheet's sections: levels, fields, constants, nodes, each after its count. A section reader reads each from where the one before ended.
 // The parameters are plain, so that callers know nothing of the reader. Every function takes any bytes.
+#![tactic(auto)]
+
 mod reader;
 mod section;
 pub mod verdict;

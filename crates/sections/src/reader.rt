@@ -7,7 +7,7 @@ ghost use Rattle.sections.specs.Inside.Reader.{rest_of, at_start, past};
 use crate::section;
 use crate::verdict::Verdict;
 
-#[derive(Drop)]
+#[derive(Clone, Copy)]
 pub struct SectionReader<'a> {
     sheet: &'a [u8],
     at: usize,

@@ -4,7 +4,7 @@ ghost use Rattle.sections.specs.Verdict.{fault_number, verdict_number, verdict_p
 
 use basis::numbers;
 
-#[derive(Drop)]
+#[derive(Clone, Copy)]
 pub enum Verdict {
     Passes,
     // the sheet ends too soon or has bytes left
@@ -24,7 +24,7 @@ pub enum Verdict {
 }
 
 // What is wrong with a node, in the order in which it is told.
-#[derive(Drop)]
+#[derive(Clone, Copy)]
 pub enum Fault {
     // a kind or an operator that is not known
     Unknown,

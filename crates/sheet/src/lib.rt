@@ -1,4 +1,6 @@
 // Judges a sheet's bytes: its four sections, their counts and entries, the tree that its nodes make. The checks stand in document 01's order.
+#![tactic(auto)]
+
 pub mod depth;
 
 ghost use Rattle.std.specs.Prelude.{◌≡◌};

@@ -1,5 +1,7 @@
 // The store's bytes: a count, then an entry per field. What a mark byte says, whether a store fits a sheet and its marks are right (8 and 9), a field
 // read, a field written. No other crate knows how an entry lies in the bytes.
+#![tactic(auto)]
+
 ghost use Rattle.std.specs.Prelude.{◌≡◌, ◌∷◌, ◌+◌, ◌≤◌, ◌<◌, length};
 ghost use Rattle.std.proofs.lemmas.List.Edits.{sets};
 ghost use Rattle.value.specs.Bytes.{bytes_of};

@@ -1,5 +1,7 @@
 // Document 01's trials that run and are compared. Standard input has them one after another: the name's length (1 byte), the name, the sheet's
 // length (2 bytes), the sheet. A line comes out for each: the name and what load answers, number, place and units.
+#![tactic(auto)]
+
 ghost use Rattle.std.specs.Prelude.{◌<◌, length};
 
 use basis::answer::{Answer, unpack};

@@ -1,6 +1,8 @@
 // Values: the signed 32-bit numbers of a sheet, with constants, constructors from and to bytes, and the operators' checked functions.
 // A result is exact, or `Computed` says why there is none. It is worked out at 64 bits, which hold every result of two values, and
 // narrowed in one place, `exact`.
+#![tactic(auto)]
+
 ghost use Rattle.std.specs.Prelude.{false, cond, ◌≡◌, ◌+◌, ◌≤◌, pos, negsuc, neg_ℤ, nat_abs, ◌-ℤ◌, length, ◌<ℤ◌};
 ghost use Rattle.std.proofs.lemmas.List.Edits.{sets};
 ghost use Rattle.std.specs.Int.{w32};
@@ -10,13 +12,13 @@ ghost use Rattle.value.specs.Values.{truth, equal_of, less_of, at_most_of, is_tr
 ghost use Rattle.value.specs.Bytes.{of_bits, bits_of, of_bytes, bytes_of, value_at};
 
 // A number from `LEAST` to `GREATEST`.
-#[derive(Drop)]
+#[derive(Clone, Copy)]
 pub struct Value {
     pub n: i32,
 }
 
 // What an operator gives: a value, or why there is none. A result out of range is told as the number that it is.
-#[derive(Drop)]
+#[derive(Clone, Copy)]
 pub enum Computed {
     Is(Value),
     OutOfRange(i64),
