@@ -122,10 +122,13 @@ module _ {Mark Seen Context : Type 0} (𝓜 : Marking Mark Seen Context) (𝓢 :
   alike_sym c d same = same
   alike_sym c d (blind {m} {n} h) = blind (𝓢.blind_sym m n h)
 
+  alike_moved : (v w : Value) (m n : Mark) (c : Cell Mark) → Like c (cell v m) → 𝓢.moving.Moved m n → Like c (cell w n)
+  alike_moved v w m n c same k = blind (𝓢.moved_blind m n k)
+  alike_moved v w m n c (blind {m = l} h) k = blind (𝓢.blind_moved l m n h k)
+
   alike_later : (c d d' : Cell Mark) → Like c d → Later 𝓢.moving d d' → Like c d'
   alike_later c d d' h stays = h
-  alike_later c d d' same (moves {m} {n} k) = blind (𝓢.moved_blind m n k)
-  alike_later c d d' (blind {m} {n} h) (moves {n = n'} k) = blind (𝓢.blind_moved m n n' h k)
+  alike_later c d d' h (moves {v} {w} {m} {n} k) = alike_moved v w m n c h k
 
   both_later : (c d c' d' : Cell Mark) → Like c d → Later 𝓢.moving c c' → Later 𝓢.moving d d' → Like c' d'
   both_later c d c' d' h k l = alike_sym d' c' (alike_later d' c c' (alike_sym c d' (alike_later c d d' h l)) k)

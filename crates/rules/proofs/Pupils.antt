@@ -53,7 +53,7 @@ start-agree (suc i) = hidden refl refl
 
 -- whole 1 does not agree with partial 2 for him
 apart : Agree (lattice diamond) 1 (cell (number 5) (whole 1)) (cell (number 5) (partial 2)) → ⊥
-unfolding diamond ordering
+unfolding diamond ordering number
 apart (second_partial (inl e)) = true≢false e
 apart (second_partial (inr e)) = true≢false (sym e)
 
