@@ -1,0 +1,16 @@
+-- The lowest level's row has every level, and no other row does.
+use native.Mathlib.Omega.{arith}
+use mathlib.Core.Path.{sym, ◌∙◌}
+use Rattle.levels.proofs.Facts.{facts}
+use Rattle.levels.proofs.Bounds.{lowest_is}
+use Rattle.levels.proofs.Rows.{lowest_row, with_row}
+use Rattle.levels.proofs.lowest.Goals as goal
+
+pub full-requires : goal.full-requires
+full-requires c = omega (arith, (facts c.args.rows.now c.requires).few)
+
+pub returns : goal.returns
+returns c =
+    let s = c.args.rows.now in
+    let row = lowest_row s c.requires ∙ sym c.full.ensures in
+    with_row s c.requires _ _ _ c.with_row.ensures (lowest_is s c.requires).level row

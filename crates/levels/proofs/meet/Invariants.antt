@@ -1,0 +1,10 @@
+use Prim.Native.Nat.{◌-◌}
+use Rattle.levels.specs.Levels.{count, meet_of}
+use Rattle.levels.proofs.Scan.{Found}
+use Rattle.levels.proofs.meet.Given as goal
+
+abbrev pub invariant-loop-k : goal.invariant-loop-k
+invariant-loop-k l = Found l.rows (meet_of l.rows l.i l.j) l.k l.found
+
+abbrev pub decreases-loop-k : goal.decreases-loop-k
+decreases-loop-k l = count l.rows - l.k
