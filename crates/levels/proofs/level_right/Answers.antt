@@ -1,11 +1,9 @@
 -- Every pair that the loop has passed is right.
 use borrow.Author.Count.{below_more}
-use Prim.Native.Nat.{◌-◌}
 use native.Mathlib.Omega.{arith}
 use mathlib.Core.Path.{sym, ◌∙◌}
-use mathlib.Core.Bool.{true}
 use Rattle.basis.proofs.Tests.{all_of, all-fails}
-use Rattle.levels.specs.Inside.Judging.{pair_right, level_right}
+use Rattle.levels.specs.Inside.Judging.{level_right}
 use Rattle.levels.proofs.level_right.Goals as goal
 
 pub loop-j-init : goal.loop-j-init

@@ -1,12 +1,10 @@
 -- Every level that the loop has passed makes right pairs; then the rows are right exactly if some row has every level.
 use borrow.Author.Count.{below_more}
-use Prim.Native.Nat.{◌-◌}
 use native.Mathlib.Omega.{arith}
 use mathlib.Core.Path.{sym, ◌∙◌}
-use mathlib.Core.Bool.{true, true≢false}
+use mathlib.Core.Bool.{true≢false}
 use Rattle.basis.proofs.Tests.{is_false}
 use Rattle.levels.specs.Levels.{right}
-use Rattle.levels.specs.Inside.Judging.{level_right}
 use Rattle.levels.proofs.Facts.{facts}
 use Rattle.levels.proofs.Judging.{level-right, judged}
 use Rattle.levels.proofs.right.Goals as goal

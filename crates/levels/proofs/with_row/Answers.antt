@@ -1,7 +1,6 @@
 -- No row that the loop has passed is the one wanted; so the first that is wanted is found, and past the last there is none.
 use borrow.Author.Count.{below_more}
 use borrow.Author.Tests.{le-ltb}
-use Prim.Native.Nat.{◌-◌}
 use native.Mathlib.Omega.{arith}
 use mathlib.Core.Path.{sym, ◌∙◌}
 use Rattle.basis.proofs.Tests.{is_false}

@@ -1,8 +1,7 @@
 -- The loop's invariant: the bytes passed may follow each other.
-use Prim.Native.Nat.{◌*◌, ◌-◌}
+use Prim.Native.Nat.{◌*◌}
 use native.Mathlib.Omega.{arith}
 use mathlib.Core.Path.{sym, ◌∙◌}
-use mathlib.Core.Bool.{true}
 use lib.ListN.{get_or}
 use Rattle.basis.proofs.Tests.{and_of_lem, and_false, all_none, all_more, all_done, all-fails}
 use Rattle.names.specs.Names.{is_letter, follows_at, good_name}

@@ -1,7 +1,6 @@
 -- The loop's invariant: the names passed are good, and each is new.
-use Prim.Native.Nat.{◌-◌}
 use mathlib.Core.Path.{refl, sym, ap, ◌∙◌}
-use mathlib.Core.Bool.{Bool, true, ◌&&◌}
+use mathlib.Core.Bool.{Bool, ◌&&◌}
 use Rattle.basis.proofs.Tests.{and_of_lem, and_false, all_none, all_more, all_done, all-fails}
 use Rattle.names.specs.Names.{good_name, new_name, names_right}
 use Rattle.names.proofs.names_right.Goals as goal

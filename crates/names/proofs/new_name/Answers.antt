@@ -1,10 +1,9 @@
 -- The loop's invariant: the names passed are others.
-use Prim.Native.Nat.{◌-◌}
 use native.Mathlib.Omega.{arith}
 use mathlib.Core.Path.{sym, ap, ◌∙◌}
-use mathlib.Core.Bool.{true, not}
+use mathlib.Core.Bool.{not}
 use Rattle.basis.proofs.Tests.{all_none, all_more, all_done, all-fails}
-use Rattle.names.specs.Names.{same_name, new_name}
+use Rattle.names.specs.Names.{new_name}
 use Rattle.names.proofs.new_name.Goals as goal
 
 pub loop-k-init : goal.loop-k-init

@@ -1,8 +1,6 @@
 -- The loop's invariant: the bytes passed are the same.
-use Prim.Native.Nat.{◌-◌}
 use native.Mathlib.Omega.{arith}
 use mathlib.Core.Path.{sym}
-use mathlib.Core.Bool.{true}
 use borrow.Author.Tests.{eq-eqb, ne_eqb}
 use Rattle.basis.proofs.Tests.{all_none, all_more, all_done, all-fails}
 use Rattle.names.specs.Names.{same_name}

@@ -1,9 +1,5 @@
 -- x is turned where it is below zero, divided and turned back.
-use Prim.Native.Nat.{◌<◌}
-use lib.IntN.{pos, nat_abs}
-use mir.Syntax.{w64}
-use mir.Val.{of_z}
-use Rattle.value.proofs.Wide.{Holds, holds_fits}
+use Rattle.value.proofs.Wide.{holds_fits}
 use Rattle.value.proofs.Rounding.{divisor_above, divided, rounded}
 use Rattle.value.proofs.Value.floor.Goals as goal
 

@@ -1,0 +1,22 @@
+-- Every mark so far is taken.
+use mathlib.Core.Path.{sym, ap, ◌∙◌}
+use Rattle.basis.proofs.Tests.{all_none, all_more, all_done, all-fails}
+use Rattle.store.specs.Marks.{mark_taken, mode_of}
+use Rattle.store.specs.Stores.{marks_right}
+use Rattle.store.proofs.marks_right.Goals as goal
+
+-- whether the mark at hand is taken
+
+pub loop-i-init : goal.loop-i-init
+loop-i-init c = all_none _
+
+pub returns-then-not-mark_taken : goal.returns-then-not-mark_taken
+unfolding marks_right
+returns-then-not-mark_taken c = sym (all-fails _ _ _ c.loop-i-test.true ((let a = c.args in sym (c.mark_taken.ensures ∙ ap (mark_taken (mode_of a.mode) a.levels) c.mark_at.ensures.0)) ∙ c.if-not-mark_taken.true))
+
+pub loop-i-preserved : goal.loop-i-preserved
+loop-i-preserved c = all_more _ _ c.loop-i.invariant ((let a = c.args in sym (c.mark_taken.ensures ∙ ap (mark_taken (mode_of a.mode) a.levels) c.mark_at.ensures.0)) ∙ c.if-not-mark_taken.false)
+
+pub returns : goal.returns
+unfolding marks_right
+returns c = sym (all_done _ _ _ c.loop-i-test.false c.loop-i.invariant)
