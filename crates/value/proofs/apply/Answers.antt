@@ -1,4 +1,5 @@
 -- Each arm is its operator's contract, and a number past 8 lies past the end of the definition's list.
+use native.Mathlib.Omega.{arith}
 use mathlib.Core.Path.{ap}
 use lib.ListN.{get_or-eq_default}
 use Rattle.value.specs.declared.Computed.TheVariants.{Is}
@@ -44,4 +45,4 @@ returns-in-8 c = rw c.in-8.is (ap Is c.and.ensures)
 
 pub returns-in_default : goal.returns-in_default
 unfolding operator_of
-returns-in_default c = rw (get_or-eq_default _ _ (past 9 _ c.in_default.in_default-own.rest)) (ap Is c.or.ensures)
+returns-in_default c = rw (get_or-eq_default _ _ (omega arith)) (ap Is c.or.ensures)
