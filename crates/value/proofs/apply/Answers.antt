@@ -1,4 +1,5 @@
 -- Each arm is its operator's contract, and a number past 8 lies past the end of the definition's list.
+use Prim.Native.Nat.{◌≤◌}
 use native.Mathlib.Omega.{arith}
 use mathlib.Core.Path.{ap}
 use lib.ListN.{get_or-eq_default}
@@ -45,4 +46,4 @@ returns-in-8 c = rw c.in-8.is (ap Is c.and.ensures)
 
 pub returns-in_default : goal.returns-in_default
 unfolding operator_of
-returns-in_default c = rw (get_or-eq_default _ _ (omega arith)) (ap Is c.or.ensures)
+returns-in_default c = let past : 9 ≤ c.args.op = omega arith in rw (get_or-eq_default _ _ past) (ap Is c.or.ensures)
