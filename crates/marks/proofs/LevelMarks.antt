@@ -9,7 +9,7 @@ use Rattle.levels.specs.Levels.{count, right}
 use Rattle.levels.specs.Lattice.{lattice}
 use Rattle.levels.proofs.Bounds.{lowest_is, highest_is}
 use Rattle.levels.proofs.Laws.{laws}
-use Rattle.rules.specs.Ends.{not_below, partial_test, gives, at}
+use Rattle.rules.specs.Ends.{gives, at}
 use Rattle.store.specs.Marks.{Mark, whole, partial, level_of, is_partial, mark_of, byte_of, mode_of, mark_known}
 use Rattle.rules.specs.LevelMarks.{joined, entered}
 use Rattle.marks.specs.Inside.Words.{why_of, Stop}

@@ -3,12 +3,8 @@ use native.Mathlib.Omega.{arith}
 use mathlib.Core.Path.{refl}
 use Rattle.marks.specs.Inside.Meanings.{meaning}
 use Rattle.store.proofs.Marks.{known_is}
-use Rattle.marks.proofs.read.Statement.{statement}
-use Rattle.marks.proofs.read.Tie as tie
+use Rattle.marks.proofs.read.Goals as goal
 
-returns : tie.Need-returns
+pub returns : goal.returns
 unfolding meaning
 returns c = record { is = refl; known = c.requires; few = omega (arith, (known_is _ _ c.requires).0) }
-
-pub read_spec : {M : Type 1} → statement M
-read_spec = tie.close (tie.spec returns)
