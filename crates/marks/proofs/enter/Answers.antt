@@ -8,6 +8,12 @@ use Rattle.marks.proofs.Marking.{level-mark}
 use Rattle.marks.proofs.LevelMarks.{enter-same, enter_partial, enter-whole}
 use Rattle.marks.proofs.enter.Goals as goal
 
+pub returns : goal.returns
+unfolding meaning
+returns c =
+    let p = c.requires in
+    enter-whole ((rows_in (map (λ x. x.now) c.args.parts.now))) (style_in ((run_in c.args.task))) ((run_in c.args.task)) c.args.n ((context_in c.args.task)) c.args.m p.askable.order p.context-known (sym c.is_partial.ensures ∙ c.if-is_partial.false) (rw (c.rows_in.ensures, c.context_in-context.ensures) at c.join.ensures)
+
 pub returns-then-m-context : goal.returns-then-m-context
 unfolding meaning
 returns-then-m-context c =
@@ -26,9 +32,3 @@ join-requires c =
     let p = c.requires in
     rw (c.rows_in.ensures, c.context_in-context.ensures)
     (record { order = p.askable.order; first = (level-mark _ p.askable.order _ p.context-known).1; second = p.seen })
-
-pub returns : goal.returns
-unfolding meaning
-returns c =
-    let p = c.requires in
-    enter-whole ((rows_in (map (λ x. x.now) c.args.parts.now))) (style_in ((run_in c.args.task))) ((run_in c.args.task)) c.args.n ((context_in c.args.task)) c.args.m p.askable.order p.context-known (sym c.is_partial.ensures ∙ c.if-is_partial.false) (rw (c.rows_in.ensures, c.context_in-context.ensures) at c.join.ensures)
