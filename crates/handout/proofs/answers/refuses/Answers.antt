@@ -2,7 +2,6 @@
 use Prim.Native.Nat.{ℕ}
 use mathlib.Core.Path.{sym, ap, ◌∙◌}
 use Rattle.store.specs.Marks.{is_partial, mark_of}
-use Rattle.store.specs.Stores.{mark_at}
 use Rattle.handout.proofs.Answering.{whole-passes, partial_refuses}
 use Rattle.handout.proofs.answers.refuses.Goals as goal
 

@@ -1,8 +1,7 @@
 -- The size, the count, then each field number: what is returned early contradicts a right request.
-use Prim.Native.Nat.{ℕ, ◌-◌, ◌<◌}
+use Prim.Native.Nat.{◌<◌}
 use native.Mathlib.Omega.{arith}
 use mathlib.Core.Path.{sym}
-use mathlib.Core.List.{List}
 use borrow.Author.Tests.{lt-ltb}
 use Rattle.basis.proofs.Tests.{all_none, all_more, all_done}
 use Rattle.handout.specs.Requests.{asked_count, field_asked}
@@ -26,17 +25,14 @@ field_at-requires c = omega (arith, c.loop-i-test.true, c.if-request-asked.false
 
 -- the request, and the position
 
-abbrev request-at : tie.At-loop invariant-loop decreases-loop → List ℕ
-request-at c = c.before.before.before.before.before.before.args.request.now
-
 pub returns-then-fields-field_at : goal.returns-then-fields-field_at
 returns-then-fields-field_at c =
-    let inside : c.loop-i.i < asked_count (request-at c) = omega (arith, c.loop-i-test.true, c.count-asked.ensures.0) in
+    let inside : c.loop-i.i < asked_count ((c.args.request.now)) = omega (arith, c.loop-i-test.true, c.count-asked.ensures.0) in
     sym (is_wrong _ _ (λ r. omega (arith, r.known _ inside, c.field_at.ensures.0, c.if-fields-field_at.true)))
 
 pub loop-i-preserved : goal.loop-i-preserved
 loop-i-preserved c =
-    let less : field_asked (request-at c) c.loop-i.i < c.args.fields = omega (arith, c.field_at.ensures.0, c.if-fields-field_at.false) in
+    let less : field_asked ((c.args.request.now)) c.loop-i.i < c.args.fields = omega (arith, c.field_at.ensures.0, c.if-fields-field_at.false) in
     all_more _ _ c.loop-i.invariant (lt-ltb _ _ less)
 
 pub returns : goal.returns
