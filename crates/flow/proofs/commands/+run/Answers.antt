@@ -1,0 +1,168 @@
+-- Each turn of the loop leaves to do what gives what the whole command gives. The node number falls at each call, and in the loop it or the fuel.
+use Prim.Native.Nat.{suc, ◌-◌, ◌≤◌}
+use native.Mathlib.Omega.{arith}
+use mathlib.Core.List.{map}
+use mathlib.Core.Path.{◌≡◌, refl, sym, ap, ◌∙◌}
+use Rattle.value.specs.Values.{is_true}
+use Rattle.nodes.specs.Nodes.{kind_at}
+use Rattle.marks.specs.Inside.Parts.{nodes_in}
+use Rattle.flow.proofs.Ends.{bit-few}
+use Rattle.flow.proofs.Running.{starts, child, fuel-left, node-few, turn_below, first_stops, second_next, run-spent, at_last}
+use Rattle.flow.proofs.Running.{test_stops, side_below, side_next, while-done, body_below, context-known, round_stops, round_next}
+use Rattle.flow.proofs.commands.+run.Goals as goal
+
+pub loop-work-init : goal.loop-work-init
+loop-work-init t c = starts _ _ _ _ _ c.requires (omega arith)
+
+pub kind_in-kind-requires : goal.kind_in-kind-requires
+kind_in-kind-requires t c = c.loop-work.invariant.command.inside
+
+-- ── a sequence ──────────────────────────────────────────────────────────────────────────────
+
+pub slot_in-requires : goal.slot_in-requires
+slot_in-requires t c = (c.loop-work.invariant.command.inside, omega arith)
+
+pub run-done-requires : goal.run-done-requires
+run-done-requires t c =
+    let seven = sym c.kind_in-kind.ensures ∙ c.if-kind-eq7.true in
+    let g = c.loop-work.invariant in
+    let lower = g.lower in
+    let below = turn_below _ _ _ _ _ g seven 0 (omega arith) in
+    (omega (arith, c.slot_in.ensures.0, below.lower), child g.command (rw c.slot_in.ensures.0 below) g.command.context refl)
+
+pub returns-then-done-ge-STOP : goal.returns-then-done-ge-STOP
+returns-then-done-ge-STOP t c =
+    let seven = sym c.kind_in-kind.ensures ∙ c.if-kind-eq7.true in
+    first_stops _ _ _ _ _ c.loop-work.invariant seven (rw c.slot_in.ensures.0 at c.run-done.ensures) c.if-done-ge-STOP.true
+
+pub slot_in-n-requires : goal.slot_in-n-requires
+slot_in-n-requires t c = (c.loop-work.invariant.command.inside, omega arith)
+
+pub loop-work-smaller-then-kind-eq7 : goal.loop-work-smaller-then-kind-eq7
+loop-work-smaller-then-kind-eq7 t c =
+    let seven = sym c.kind_in-kind.ensures ∙ c.if-kind-eq7.true in
+    let below = turn_below _ _ _ _ _ c.loop-work.invariant seven 1 (omega arith) in
+    omega (arith, c.slot_in-n.ensures.0, below.lower, c.left_in-left.ensures, fuel-left c.run-done.ensures c.if-done-ge-STOP.false)
+
+pub loop-work-preserved-then-kind-eq7 : goal.loop-work-preserved-then-kind-eq7
+loop-work-preserved-then-kind-eq7 t c =
+    let seven = sym c.kind_in-kind.ensures ∙ c.if-kind-eq7.true in
+    rw (c.slot_in-n.ensures.0, c.left_in-left.ensures)
+    (second_next _ _ _ _ _ c.loop-work.invariant seven (rw c.slot_in.ensures.0 at c.run-done.ensures) c.if-done-ge-STOP.false)
+
+-- ── any other command ───────────────────────────────────────────────────────────────────────
+
+pub stop-requires : goal.stop-requires
+stop-requires t c = (omega arith, node-few _ _ _ _ _ c.loop-work.invariant)
+
+pub returns-then-left-eq0 : goal.returns-then-left-eq0
+returns-then-left-eq0 t c = run-spent _ _ _ _ _ c.loop-work.invariant (λ seven. c.if-kind-eq7.false (c.kind_in-kind.ensures ∙ seven)) c.if-left-eq0.true c.stop.ensures
+
+pub single-requires : goal.single-requires
+single-requires t c =
+    let is = c.kind_in-kind.ensures in
+    (c.loop-work.invariant.command, omega (arith, c.if-kind-lt7.true))
+
+pub returns-then-kind-lt7 : goal.returns-then-kind-lt7
+returns-then-kind-lt7 t c =
+    let unit : c.loop-work.left ≡ suc (c.loop-work.left - 1) = omega (arith, c.if-left-eq0.false) in
+    at_last _ _ _ _ _ c.loop-work.invariant unit c.single.ensures
+
+-- ── a test ──────────────────────────────────────────────────────────────────────────────────
+
+pub test-got-requires : goal.test-got-requires
+test-got-requires t c =
+    let test : 8 ≤ kind_at (nodes_in (map (λ x. x.now) c.args.parts.now)) c.loop-work.n = omega (arith, c.kind_in-kind.ensures, c.if-kind-eq7.false, c.if-kind-lt7.false) in
+    (c.loop-work.invariant.command, test)
+
+pub returns-then-got-ge-STOP : goal.returns-then-got-ge-STOP
+returns-then-got-ge-STOP t c =
+    let unit : c.loop-work.left ≡ suc (c.loop-work.left - 1) = omega (arith, c.if-left-eq0.false) in
+    let test : 8 ≤ kind_at (nodes_in (map (λ x. x.now) c.args.parts.now)) c.loop-work.n = omega (arith, c.kind_in-kind.ensures, c.if-kind-eq7.false, c.if-kind-lt7.false) in
+    test_stops _ _ _ _ _ c.loop-work.invariant unit c.test-got.ensures test c.if-got-ge-STOP.true c.with_left.ensures
+
+pub overflow_sub-holds : goal.overflow_sub-holds
+overflow_sub-holds t c = omega (arith, bit-few c.is_true-holds.result)
+
+pub slot_in-n-requires-then-kind-eq8 : goal.slot_in-n-requires-then-kind-eq8
+slot_in-n-requires-then-kind-eq8 t c = (c.loop-work.invariant.command.inside, omega arith)
+
+pub loop-work-smaller-then-kind-eq8 : goal.loop-work-smaller-then-kind-eq8
+loop-work-smaller-then-kind-eq8 t c =
+    let unit : c.loop-work.left ≡ suc (c.loop-work.left - 1) = omega (arith, c.if-left-eq0.false) in
+    let eight = sym c.kind_in-kind.ensures ∙ c.if-kind-eq8.true in
+    let g = c.loop-work.invariant in
+    let below = side_below _ _ _ _ _ g unit c.test-got.ensures c.if-got-ge-STOP.false eight c.is_true-holds.result in
+    omega (arith, c.slot_in-n-then-kind-eq8.ensures.0, below.lower, unit)
+
+pub loop-work-preserved-then-kind-eq8 : goal.loop-work-preserved-then-kind-eq8
+loop-work-preserved-then-kind-eq8 t c =
+    let unit : c.loop-work.left ≡ suc (c.loop-work.left - 1) = omega (arith, c.if-left-eq0.false) in
+    let eight = sym c.kind_in-kind.ensures ∙ c.if-kind-eq8.true in
+    let holds = sym (c.is_true-holds.ensures ∙ ap is_true c.value_in.ensures) in
+    let joined = rw c.mark_in.ensures at c.in_context-task.ensures in
+    rw c.slot_in-n-then-kind-eq8.ensures.0
+    (side_next _ _ _ _ _ c.loop-work.invariant unit c.test-got.ensures c.if-got-ge-STOP.false eight
+    c.is_true-holds.result holds joined)
+
+-- ── a while ─────────────────────────────────────────────────────────────────────────────────
+
+pub slot_in-requires-then-holds : goal.slot_in-requires-then-holds
+slot_in-requires-then-holds t c = (c.loop-work.invariant.command.inside, omega arith)
+
+pub run-round-requires : goal.run-round-requires
+run-round-requires t c =
+    let unit : c.loop-work.left ≡ suc (c.loop-work.left - 1) = omega (arith, c.if-left-eq0.false) in
+    let test : 8 ≤ kind_at (nodes_in (map (λ x. x.now) c.args.parts.now)) c.loop-work.n = omega (arith, c.kind_in-kind.ensures, c.if-kind-eq7.false, c.if-kind-lt7.false) in
+    let command = c.loop-work.invariant.command in
+    let most = command.ready.formed.kind _ command.inside in
+    let nine : kind_at (nodes_in (map (λ x. x.now) c.args.parts.now)) c.loop-work.n ≡ 9 = omega (arith, c.kind_in-kind.ensures, test, c.if-kind-eq8.false) in
+    let g = c.loop-work.invariant in
+    let lower = g.lower in
+    let below = body_below _ _ _ _ _ g unit c.test-got.ensures c.if-got-ge-STOP.false nine in
+    let joined = rw c.mark_in.ensures at c.in_context-task.ensures in (
+      omega (arith, c.slot_in-then-holds.ensures.0, below.lower),
+      child g.command (rw c.slot_in-then-holds.ensures.0 below)
+          (context-known _ _ _ _ _ g unit c.test-got.ensures c.if-got-ge-STOP.false joined) joined.same,
+    )
+
+pub returns-then-round-ge-STOP : goal.returns-then-round-ge-STOP
+returns-then-round-ge-STOP t c =
+    let unit : c.loop-work.left ≡ suc (c.loop-work.left - 1) = omega (arith, c.if-left-eq0.false) in
+    let test : 8 ≤ kind_at (nodes_in (map (λ x. x.now) c.args.parts.now)) c.loop-work.n = omega (arith, c.kind_in-kind.ensures, c.if-kind-eq7.false, c.if-kind-lt7.false) in
+    let command = c.loop-work.invariant.command in
+    let most = command.ready.formed.kind _ command.inside in
+    let nine : kind_at (nodes_in (map (λ x. x.now) c.args.parts.now)) c.loop-work.n ≡ 9 = omega (arith, c.kind_in-kind.ensures, test, c.if-kind-eq8.false) in
+    let holds = sym (c.is_true-holds.ensures ∙ ap is_true c.value_in.ensures) in
+    let joined = rw c.mark_in.ensures at c.in_context-task.ensures in
+    round_stops _ _ _ _ _ c.loop-work.invariant unit c.test-got.ensures c.if-got-ge-STOP.false nine
+    (holds ∙ c.if-holds.true) joined (rw c.slot_in-then-holds.ensures.0 at c.run-round.ensures) c.if-round-ge-STOP.true
+
+pub loop-work-smaller : goal.loop-work-smaller
+loop-work-smaller t c =
+    let unit : c.loop-work.left ≡ suc (c.loop-work.left - 1) = omega (arith, c.if-left-eq0.false) in
+    omega (arith, unit, c.left_in-left-then-holds.ensures, fuel-left c.run-round.ensures c.if-round-ge-STOP.false)
+
+pub loop-work-preserved : goal.loop-work-preserved
+loop-work-preserved t c =
+    let unit : c.loop-work.left ≡ suc (c.loop-work.left - 1) = omega (arith, c.if-left-eq0.false) in
+    let test : 8 ≤ kind_at (nodes_in (map (λ x. x.now) c.args.parts.now)) c.loop-work.n = omega (arith, c.kind_in-kind.ensures, c.if-kind-eq7.false, c.if-kind-lt7.false) in
+    let command = c.loop-work.invariant.command in
+    let most = command.ready.formed.kind _ command.inside in
+    let nine : kind_at (nodes_in (map (λ x. x.now) c.args.parts.now)) c.loop-work.n ≡ 9 = omega (arith, c.kind_in-kind.ensures, test, c.if-kind-eq8.false) in
+    let holds = sym (c.is_true-holds.ensures ∙ ap is_true c.value_in.ensures) in
+    let joined = rw c.mark_in.ensures at c.in_context-task.ensures in
+    rw c.left_in-left-then-holds.ensures
+    (round_next _ _ _ _ _ c.loop-work.invariant unit c.test-got.ensures c.if-got-ge-STOP.false nine
+    (holds ∙ c.if-holds.true) joined (rw c.slot_in-then-holds.ensures.0 at c.run-round.ensures) c.if-round-ge-STOP.false)
+
+pub returns-else-holds : goal.returns-else-holds
+returns-else-holds t c =
+    let unit : c.loop-work.left ≡ suc (c.loop-work.left - 1) = omega (arith, c.if-left-eq0.false) in
+    let test : 8 ≤ kind_at (nodes_in (map (λ x. x.now) c.args.parts.now)) c.loop-work.n = omega (arith, c.kind_in-kind.ensures, c.if-kind-eq7.false, c.if-kind-lt7.false) in
+    let command = c.loop-work.invariant.command in
+    let most = command.ready.formed.kind _ command.inside in
+    let nine : kind_at (nodes_in (map (λ x. x.now) c.args.parts.now)) c.loop-work.n ≡ 9 = omega (arith, c.kind_in-kind.ensures, test, c.if-kind-eq8.false) in
+    let holds = sym (c.is_true-holds.ensures ∙ ap is_true c.value_in.ensures) in
+    while-done _ _ _ _ _ c.loop-work.invariant unit c.test-got.ensures c.if-got-ge-STOP.false nine
+    (holds ∙ c.if-holds.false)
