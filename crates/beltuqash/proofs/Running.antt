@@ -14,7 +14,6 @@ use Rattle.levels.specs.Lattice.{lattice}
 use Rattle.levels.proofs.Bounds.{lowest_is}
 use Rattle.sections.specs.Sections.{levels_of, constants_of, nodes_of}
 use Rattle.sheet.specs.Load.{field_count, last_of, program_of}
-use Rattle.sheet.proofs.Loading.{loaded}
 use Rattle.rules.specs.Ends.{stop_number, out_of_range, divisor_zero, not_below, partial_test, End, done, stopped}
 use Rattle.rules.specs.Rules.{exec}
 use Rattle.store.specs.Marks.{Mark, mode_of, mark_of}
