@@ -107,25 +107,6 @@ loop-work-preserved-then-kind-eq8 t c =
 
 -- ── a while ─────────────────────────────────────────────────────────────────────────────────
 
-pub slot_in-requires-then-holds : goal.slot_in-requires-then-holds
-slot_in-requires-then-holds t c = (c.loop-work.invariant.command.inside, omega arith)
-
-pub run-round-requires : goal.run-round-requires
-run-round-requires t c =
-    let unit : c.loop-work.left ≡ suc (c.loop-work.left - 1) = omega (arith, c.if-left-eq0.false) in
-    let test : 8 ≤ kind_at (nodes_in (map (λ x. x.now) c.args.parts.now)) c.loop-work.n = omega (arith, c.kind_in-kind.ensures, c.if-kind-eq7.false, c.if-kind-lt7.false) in
-    let command = c.loop-work.invariant.command in
-    let most = command.ready.formed.kind _ command.inside in
-    let nine : kind_at (nodes_in (map (λ x. x.now) c.args.parts.now)) c.loop-work.n ≡ 9 = omega (arith, c.kind_in-kind.ensures, test, c.if-kind-eq8.false) in
-    let g = c.loop-work.invariant in
-    let lower = g.lower in
-    let below = body_below _ _ _ _ _ g unit c.test-got.ensures c.if-got-ge-STOP.false nine in
-    let joined = rw c.mark_in.ensures at c.in_context-task.ensures in (
-      omega (arith, c.slot_in-then-holds.ensures.0, below.lower),
-      child g.command (rw c.slot_in-then-holds.ensures.0 below)
-          (context-known _ _ _ _ _ g unit c.test-got.ensures c.if-got-ge-STOP.false joined) joined.same,
-    )
-
 pub returns-then-round-ge-STOP : goal.returns-then-round-ge-STOP
 returns-then-round-ge-STOP t c =
     let unit : c.loop-work.left ≡ suc (c.loop-work.left - 1) = omega (arith, c.if-left-eq0.false) in
@@ -166,3 +147,22 @@ returns-else-holds t c =
     let holds = sym (c.is_true-holds.ensures ∙ ap is_true c.value_in.ensures) in
     while-done _ _ _ _ _ c.loop-work.invariant unit c.test-got.ensures c.if-got-ge-STOP.false nine
     (holds ∙ c.if-holds.false)
+
+pub slot_in-requires-then-holds : goal.slot_in-requires-then-holds
+slot_in-requires-then-holds t c = (c.loop-work.invariant.command.inside, omega arith)
+
+pub run-round-requires : goal.run-round-requires
+run-round-requires t c =
+    let unit : c.loop-work.left ≡ suc (c.loop-work.left - 1) = omega (arith, c.if-left-eq0.false) in
+    let test : 8 ≤ kind_at (nodes_in (map (λ x. x.now) c.args.parts.now)) c.loop-work.n = omega (arith, c.kind_in-kind.ensures, c.if-kind-eq7.false, c.if-kind-lt7.false) in
+    let command = c.loop-work.invariant.command in
+    let most = command.ready.formed.kind _ command.inside in
+    let nine : kind_at (nodes_in (map (λ x. x.now) c.args.parts.now)) c.loop-work.n ≡ 9 = omega (arith, c.kind_in-kind.ensures, test, c.if-kind-eq8.false) in
+    let g = c.loop-work.invariant in
+    let lower = g.lower in
+    let below = body_below _ _ _ _ _ g unit c.test-got.ensures c.if-got-ge-STOP.false nine in
+    let joined = rw c.mark_in.ensures at c.in_context-task.ensures in (
+      omega (arith, c.slot_in-then-holds.ensures.0, below.lower),
+      child g.command (rw c.slot_in-then-holds.ensures.0 below)
+          (context-known _ _ _ _ _ g unit c.test-got.ensures c.if-got-ge-STOP.false joined) joined.same,
+    )
