@@ -11,8 +11,8 @@ EXAMPLES = target/judge target/show target/flag target/order_desk target/lesson
 TESTS = target/damaged target/shop
 CFLAGS = -std=c11 -O2 -Wall -Wextra -Wconversion
 
-# What the proved programs are made of.
-SOURCES := crates.txt $(shell find crates -name '*.rt' -o -name '*.antt')
+# What the proved programs are made of; out/ has what the prover makes.
+SOURCES := crates.txt $(shell find crates -name out -prune -o \( -name '*.rt' -o -name '*.antt' \) -print)
 
 # The archive is for x86-64: what compiles a program for it, and what the program is started under on this machine.
 CC := $(shell . tests/platform && echo "$$CC")
@@ -78,7 +78,7 @@ uninstall:
 	@rm -f "$(root)/include/beltuqash.h" "$(root)/lib/libbeltuqash.a" "$(root)/bin/beltuqash-runner" "$(root)/lib/pkgconfig/beltuqash.pc"
 
 clean:
-	@rm -rf target tests/target
+	@rm -rf target tests/target crates/*/out
 
 bench: $(ARCHIVE)
 	@bench/run

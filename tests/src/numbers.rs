@@ -82,20 +82,8 @@ fn in_definitions(text: &str) -> List {
         let name = declared.strip_suffix(" : ℕ").expect(line);
         let (defined, value) = next.split_once(" = ").expect(line);
         assert_eq!(name, defined);
-        Some((upper(name), number(value)))
+        Some((name.to_ascii_uppercase(), number(value)))
     }))
-}
-
-/// SHEET_LENGTH for sheetLength.
-fn upper(name: &str) -> String {
-    let mut upper = String::new();
-    for letter in name.chars() {
-        if letter.is_ascii_uppercase() {
-            upper.push('_');
-        }
-        upper.push(letter.to_ascii_uppercase());
-    }
-    upper
 }
 
 #[test]

@@ -15,6 +15,8 @@ use Rattle.report.specs.Text.{digits_within, decimal, part, signed}
 -- enough is enough
 within_same : (j k n : ℕ) → n < j → n < k → digits_within j n ≡ digits_within k n
 unfolding digits_within
+within_same zero k n f g = absurd (omega arith)
+within_same (suc j) zero n f g = absurd (omega arith)
 within_same (suc j) (suc k) n f g = go (dec_le 10 n) (λ h. within_same j k (n / 10) (omega arith) (omega arith))
   where
     go : Dec (10 ≤ n) → (10 ≤ n → digits_within j (n / 10) ≡ digits_within k (n / 10)) → digits_within (suc j) n ≡ digits_within (suc k) n

@@ -11,12 +11,10 @@ use lib.Seq.{take_at, drop_at}
 use Rattle.basis.specs.Numbers as numbers
 use Rattle.basis.specs.Bytes.{word_at}
 use Rattle.basis.proofs.Tests.{None, both}
-use Rattle.levels.specs.Levels.{count}
 use Rattle.levels.specs.Lattice.{Lattice, lattice}
 use Rattle.levels.proofs.Laws.{laws}
 use Rattle.sections.specs.Sections.{levels_of}
 use Rattle.sheet.specs.Load.{field_count}
-use Rattle.sheet.proofs.Loading.{loaded}
 use Rattle.store.specs.Stores.{store_length, store_of, store_fits}
 use Rattle.rules.specs.Agreement.{StoresAgree}
 use Rattle.handout.specs.Requests.{asked_count, field_asked}

@@ -3,7 +3,7 @@ use Prim.Native.Nat.{ℕ, ◌-◌}
 use native.Mathlib.Omega.{arith}
 use mathlib.Core.Path.{◌≡◌, refl, sym, ap, ◌∙◌}
 use mathlib.Core.Bool.{Bool, true, false, true≢false}
-use mathlib.Core.List.{List, [], ◌∷◌, ◌++◌}
+use mathlib.Core.List.{List, [], ◌++◌}
 use mathlib.Core.Logic.{inl, inr}
 use lib.ListN.{length, drop}
 use lib.Seq.{drop_at}
@@ -24,7 +24,7 @@ use Rattle.store.proofs.Entries.{store_length_lem}
 use Rattle.rules.specs.Ends.{out_of_range, divisor_zero, not_below, partial_test, End, done, spent, stopped}
 use Rattle.beltuqash.specs.Calls.{sheet_checks, run_checks, hand_out_checks, load, ended, run_from, run, answered, hand_out}
 use Rattle.beltuqash.proofs.Unique.{load-within, hand_out_within}
-use Rattle.secrecy.specs.Outcomes.{among, load_numbers, run_numbers, hand_out_numbers, placed, spending, Told, Leaves, LoadTells, RunTells, HandOutTells}
+use Rattle.secrecy.specs.Outcomes.{among, load_numbers, run_numbers, hand_out_numbers, placed, spending, Told, LoadTells, RunTells, HandOutTells}
 use Rattle.secrecy.proofs.Finished.{Finished, finished, given, outcome-is, written}
 use Rattle.secrecy.proofs.Answered.{replied}
 

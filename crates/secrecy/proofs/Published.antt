@@ -1,7 +1,7 @@
 -- What a call of run that finishes has run is what the published rules have; one that stops has run what has no end there.
-use Prim.Native.Nat.{ℕ, ◌≤◌}
+use Prim.Native.Nat.{ℕ}
 use mathlib.Core.Path.{◌≡◌, refl, sym, ap, ◌∙◌}
-use mathlib.Core.Bool.{true, true≢false}
+use mathlib.Core.Bool.{true≢false}
 use mathlib.Core.List.{List}
 use mathlib.Core.Logic.{◌⊎◌, inl, inr}
 use Rattle.basis.specs.Numbers as numbers
@@ -11,17 +11,17 @@ use Rattle.levels.specs.Levels.{right}
 use Rattle.levels.specs.Lattice.{Laws, lattice}
 use Rattle.levels.proofs.Laws.{laws}
 use Rattle.sections.specs.Sections.{levels_of}
-use Rattle.sheet.specs.Load.{field_count, program_of}
+use Rattle.sheet.specs.Load.{program_of}
 use Rattle.store.specs.Cells.{Store}
 use Rattle.store.specs.Marks.{Mark, mode_of}
 use Rattle.store.specs.Stores.{store_of}
-use Rattle.rules.specs.Ends.{End, done, spent}
+use Rattle.rules.specs.Ends.{End, done}
 use Rattle.rules.specs.Published.{DoneOrSpent, is-done, is-spent}
 use Rattle.rules.proofs.Published.{follows, stops_unpublished as tree_stops, reaches_published as tree_reaches}
 use Rattle.beltuqash.specs.Calls.{ended}
 use Rattle.secrecy.specs.Secrecy.{Call, outcome, Finishes}
-use Rattle.secrecy.specs.Published.{Ends, Wrote, FinishesAsPublished, StopsUnpublished, Passes, ReachesPublished, FinishesWithEnough}
-use Rattle.secrecy.proofs.Finished.{Passed, executed, Finished, finished, given, outcome-is, written}
+use Rattle.secrecy.specs.Published.{Wrote, FinishesAsPublished, StopsUnpublished, ReachesPublished, FinishesWithEnough}
+use Rattle.secrecy.proofs.Finished.{Passed, executed, finished, given, outcome-is, written}
 use Rattle.secrecy.proofs.Halted.{halted}
 
 -- the levels of a sheet whose call passed are a lattice

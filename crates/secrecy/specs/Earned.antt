@@ -1,6 +1,6 @@
 -- Every number of `Outcomes` is earned, by each call that gives it: an input for each. 13 and 14 are rows of `Trials`. 7, depth over 64, takes a sheet too
 -- long to read here, and is earned in the tests.
-use Rattle.std.specs.Prelude.{ℕ, ◌≡◌, refl, List, [], ◌∷◌, ◌++◌, map, pos}
+use Rattle.std.specs.Prelude.{ℕ, ◌≡◌, refl, List, [], ◌∷◌, ◌++◌, map}
 use Rattle.value.specs.Values.{operating}
 use Rattle.value.specs.Bytes.{of_bits, bits_of, bytes_of}
 use Rattle.basis.specs.Numbers as numbers

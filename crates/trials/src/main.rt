@@ -2,54 +2,63 @@
 // length (2 bytes), the sheet. A line comes out for each: the name and what load answers, number, place and units.
 #![tactic(auto)]
 
-ghost use Rattle.std.specs.Prelude.{◌<◌, length};
+ghost use Rattle.std.specs.Prelude.{◌<◌, ◌≤◌, length, IfOk};
 
 use basis::answer::{Answer, unpack};
-use libc::{STDIN_FILENO, STDOUT_FILENO};
+use std::io;
+use std::io::{Read, Write};
 
-fn main() {
-    let mut buffer = io::large_buffer();
-    let n = io::read_full(STDIN_FILENO, &mut buffer);
-    all_trials(&buffer[..n]);
+fn main(rt: HostRuntime) -> io::Result<()> {
+    let mut buffer = [0u8; 65536];
+    let n = read_full(&mut rt.stdin(), &mut buffer)?;
+    all_trials(&mut rt.stdout(), &buffer[..n])
 }
 
-fn all_trials(input: &[u8]) {
+// Reads until the buffer is full or the input ends, and gives how many bytes it read.
+fn read_full<R: Read>(input: &mut R, buffer: &mut [u8]) -> io::Result<usize>
+    ensures { IfOk result (λ n. n ≤ length buffer.new) }
+{
+    let mut done = 0;
+    while done < buffer.len() {
+        let n = input.read(&mut buffer[done..])?;
+        if n == 0 {
+            break;
+        }
+        done += n;
+    }
+    Ok(done)
+}
+
+fn all_trials<W: Write>(output: &mut W, input: &[u8]) -> io::Result<()> {
     let mut at: usize = 0;
     while at < input.len() {
-        at = trial(input, at);
+        at = trial(output, input, at)?;
     }
+    Ok(())
 }
 
 // The trial at an offset, and the offset after it. A trial that is cut ends the input.
-fn trial(input: &[u8], at: usize) -> usize
+fn trial<W: Write>(output: &mut W, input: &[u8], at: usize) -> io::Result<usize>
     requires { at < length input.now }
-    ensures { at < result }
+    ensures { IfOk result (λ end. at < end) }
 {
     let name_at = at + 1;
     let length_at = name_at + basis::wide(input[at]) as usize;
     if input.len() < length_at + 2 {
-        return input.len();
+        return Ok(input.len());
     }
     let sheet_at = length_at + 2;
     let end = sheet_at + basis::word(input, length_at) as usize;
     if input.len() < end {
-        return input.len();
+        return Ok(input.len());
     }
-    io::write_all(STDOUT_FILENO, &input[name_at..length_at]);
-    print(unpack(beltuqash::beltuqash_load(&input[sheet_at..end])));
-    end
+    let answer = unpack(beltuqash::beltuqash_load(&input[sheet_at..end]));
+    output.write_all(&input[name_at..length_at])?;
+    print(output, answer)?;
+    Ok(end)
 }
 
 // Number, place and units.
-fn print(a: Answer) {
-    io::write_all(STDOUT_FILENO, b":");
-    print_number(a.number as u64);
-    print_number(a.place as u64);
-    print_number(a.units as u64);
-    io::write_all(STDOUT_FILENO, b"\n");
-}
-
-fn print_number(n: u64) {
-    io::write_all(STDOUT_FILENO, b" ");
-    io::print_decimal(STDOUT_FILENO, n);
+fn print<W: Write>(output: &mut W, a: Answer) -> io::Result<()> {
+    writeln!(output, ": {} {} {}", a.number, a.place, a.units)
 }

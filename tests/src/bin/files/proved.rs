@@ -40,10 +40,10 @@ fn same(name: &str, sheet: &Sheet) {
 
 #[test]
 fn the_flag_sheet() {
-    same("flagSheet", &samples::flag());
+    same("flag_sheet", &samples::flag());
 }
 
 #[test]
 fn the_flag_sheet_with_a_seal() {
-    same("sealedSheet", &samples::sealed_flag());
+    same("sealed_sheet", &samples::sealed_flag());
 }
