@@ -5,14 +5,13 @@ use native.Mathlib.Omega.{arith}
 use mathlib.Core.Path.{◌≡◌, sym, ◌∙◌}
 use mathlib.Core.Bool.{Bool, true, false, ◌&&◌}
 use mathlib.Core.List.{List, [], ◌∷◌, ◌++◌}
-use lib.ListN.{length}
+use lib.ListN.{length, drop}
 use lib.Dec.{leb, ltb}
-use borrow.Author.Tests.{leb-false}
 use Rattle.basis.specs.declared.answer.Answer.{Answer}
 use Rattle.basis.specs.Numbers as numbers
 use Rattle.basis.specs.Answer.{answer, success, refusal, word_of, answer_in, Outcome}
 use Rattle.basis.specs.Checks.{Check, check, all_hold, tells, checked}
-use Rattle.basis.proofs.Tests.{both, split}
+use Rattle.basis.proofs.Tests.{both, split, first-most}
 use Rattle.basis.proofs.Checks.{first_holds, first-fails, tells-success, append-holds, append-fails, no_more, ◌also◌, tells_one, goes_on, refuses}
 use Rattle.levels.specs.Levels.{count}
 use Rattle.levels.specs.Lattice.{lattice}
@@ -29,7 +28,7 @@ use Rattle.rules.specs.Ends.{stop_number, Why, out_of_range, divisor_zero, not_b
 use Rattle.rules.specs.LevelMarks.{marking}
 use Rattle.rules.proofs.Stops.{EndUpTo, upto_done, upto_spent, upto_stopped, cmd_upto, exec_upto}
 use Rattle.handout.specs.Requests.{asked_count, request_right}
-use Rattle.handout.specs.Answers.{answer_length}
+use Rattle.handout.specs.Answers.{answer_length, first_refusing}
 use Rattle.handout.proofs.Requesting.{right_has}
 use Rattle.beltuqash.specs.Calls.{sheet_checks, store_checks, run_checks, request_checks, refused_position, load, ended, run_from, run, answered, hand_out, Tells, Yields}
 use Rattle.beltuqash.specs.Inside.Given.{Given}
@@ -152,20 +151,15 @@ module _ (sheet store : List ℕ) (mode fuel : ℕ) (out : List ℕ) where
 
 module _ (sheet store : List ℕ) (reader : ℕ) (request out : List ℕ) where
   -- a right request asks for at most 64 fields
-  place-told : asked_count request ≤ 64 → leb (asked_count request) (refused_position sheet store reader request) ≡ false
-      → Within 0 (refusal numbers.partial_asked (refused_position sheet store reader request))
-  place-told few f =
-      let before : refused_position sheet store reader request < asked_count request = leb-false _ _ f in
-      record { number = (omega arith, λ e. omega arith); place = omega arith; units = omega arith }
+  place-told : {place : ℕ} {holds : Bool} → place ≤ asked_count request → asked_count request ≤ 64 → holds ≡ false → Within 0 (refusal numbers.partial_asked place)
+  place-told most few f = record { number = (omega arith, λ e. omega arith); place = omega arith; units = omega arith }
 
   -- the checks after 17
   abbrev after_17 : List Check
-  after_17 =
-      check (leb (answer_length request) (length out)) numbers.out_short 0
-      ∷ check (leb (asked_count request) (refused_position sheet store reader request)) numbers.partial_asked (refused_position sheet store reader request)
-      ∷ []
+  after_17 = drop 1 (request_checks sheet store reader request (length out))
 
   request_within : Within 0 (tells (request_checks sheet store reader request (length out)))
+  unfolding first_refusing
   request_within =
       let asked = ltb reader (count (levels_of sheet)) && request_right (field_count sheet) request in
       split asked
@@ -174,7 +168,7 @@ module _ (sheet store : List ℕ) (reader : ℕ) (request out : List ℕ) where
       rw (first_holds (check asked numbers.reader_or_request 0) after_17 t).1
       (split (all_hold after_17)
       (λ all. rw (tells-success after_17 all) none_told)
-      (λ f. tells_one (Within 0) after_17 (plain numbers.out_short (omega arith, λ e. omega arith) also place-told few also no_more) f)))
+      (λ f. tells_one (Within 0) after_17 (plain numbers.out_short (omega arith, λ e. omega arith) also place-told (first-most _ _) few also no_more) f)))
       (λ f. rw (first-fails (check asked numbers.reader_or_request 0) after_17 f).1 (plain numbers.reader_or_request (omega arith, λ e. omega arith) f))
 
   -- hand-out gives a number up to 22 but 5, a node's number or a position in the request as its place, and no units

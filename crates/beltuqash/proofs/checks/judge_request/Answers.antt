@@ -62,18 +62,6 @@ count-requires c =
     let given = requested _ _ _ _ c.requires asked in
     omega (arith, (right_has _ _ given.right_request).size)
 
-pub returns-then-first-count : goal.returns-then-first-count
-unfolding tells
-returns-then-first-count c =
-    let a = c.args in
-    let asked_is = ap₂ (λ (rows : List ℕ) (b : Bool). ltb a.reader (count rows) && b) (sym c.levels-rows.ensures) (sym (c.right.ensures ∙ ap (λ (l : List ℕ). request_right (length l / 8) a.request.now) c.fields.ensures)) in
-    let asked = asked_is ∙ c.if-not-known-right.false in
-    let room = le-leb (answer_length a.request.now) a.room (omega (arith, c.if-room-length.false, c.length.ensures)) in
-    let position = refused_position a.sheet.now a.store.now a.reader a.request.now in
-    let first_is = rw c.levels-rows.ensures at c.first_refusing-first.ensures in
-    let before = lt-leb (asked_count a.request.now) position (omega (arith, c.if-first-count.true, first_is, c.count.ensures.0)) in
-    rw (asked, room, before) (c.refusal-then-first-count.ensures ∙ ap (refusal numbers.partial_asked) first_is)
-
 pub returns : goal.returns
 unfolding tells
 returns c =
@@ -85,3 +73,15 @@ returns c =
     let first_is = rw c.levels-rows.ensures at c.first_refusing-first.ensures in
     let none = le-leb (asked_count a.request.now) position (omega (arith, c.if-first-count.false, first_is, c.count.ensures.0)) in
     rw (asked, room, none) c.success.ensures
+
+pub returns-then-first-count : goal.returns-then-first-count
+unfolding tells
+returns-then-first-count c =
+    let a = c.args in
+    let asked_is = ap₂ (λ (rows : List ℕ) (b : Bool). ltb a.reader (count rows) && b) (sym c.levels-rows.ensures) (sym (c.right.ensures ∙ ap (λ (l : List ℕ). request_right (length l / 8) a.request.now) c.fields.ensures)) in
+    let asked = asked_is ∙ c.if-not-known-right.false in
+    let room = le-leb (answer_length a.request.now) a.room (omega (arith, c.if-room-length.false, c.length.ensures)) in
+    let position = refused_position a.sheet.now a.store.now a.reader a.request.now in
+    let first_is = rw c.levels-rows.ensures at c.first_refusing-first.ensures in
+    let before = lt-leb (asked_count a.request.now) position (omega (arith, c.if-first-count.true, first_is, c.count.ensures.0)) in
+    rw (asked, room, before) (c.refusal-then-first-count.ensures ∙ ap (refusal numbers.partial_asked) first_is)

@@ -41,11 +41,6 @@ module _ (mode fuel : ℕ) where
       let (low, few) = neither (ltb 1 mode) _ h in
       and_of_lem (le-leb mode 1 (ltb-false 1 mode low)) (le-leb fuel 1000000 (ltb-false 1000000 fuel few))
 
-pub returns-then-mode-fuel : goal.returns-then-mode-fuel
-returns-then-mode-fuel c =
-    let a = c.args in
-    c.refusal.ensures ∙ sym (first-fails (check (asked a.mode a.fuel) numbers.mode_or_fuel 0) _ (wrongly_asked a.mode a.fuel c.if-mode-fuel.true)).1
-
 pub returns-then-refused-ne-DONE : goal.returns-then-refused-ne-DONE
 returns-then-refused-ne-DONE c =
     let a = c.args in
@@ -93,3 +88,8 @@ returns c =
     let long = store_length (field_count a.sheet.now) in
     let enough = le-leb long a.room (omega (arith, c.if-room-length.false, length_is)) in
     c.success.ensures ∙ sym (past_store ∙ (first_holds (check (leb long a.room) numbers.out_short 0) [] enough).1)
+
+pub returns-then-mode-fuel : goal.returns-then-mode-fuel
+returns-then-mode-fuel c =
+    let a = c.args in
+    c.refusal.ensures ∙ sym (first-fails (check (asked a.mode a.fuel) numbers.mode_or_fuel 0) _ (wrongly_asked a.mode a.fuel c.if-mode-fuel.true)).1

@@ -13,6 +13,28 @@ use Rattle.beltuqash.proofs.Running.{moved, stop_out, task_in, Done, left-done, 
 -- what came in
 use Rattle.beltuqash.proofs.runs.run_from.Goals as goal
 
+pub returns : goal.returns
+unfolding ended
+returns c =
+    let a = c.args in
+    let rows_are = c.levels-rows.ensures in
+    let nodes_are = c.nodes-nodes.ensures in
+    let constants_are = c.constants.ensures in
+    let first = rw c.levels-rows.ensures at c.first_task-task.ensures in
+    let done : Done a.sheet.now a.store.now a.mode c.fetch.new.work c.first_task-task.result a.fuel c.run-word.new.work c.run-word.result =
+    record {
+      same = c.fetch.ensures.is;
+      first = first;
+      ran =
+          moved (λ rows constants nodes. Ran (rows ∷ constants ∷ nodes ∷ []) c.fetch.new.work (last_of nodes) c.first_task-task.result a.fuel c.run-word.new.work c.run-word.result)
+          rows_are constants_are nodes_are c.run-word.ensures;
+    } in
+    let count_is = ap (λ (l : List ℕ). length l / 8) c.fields.ensures in
+    let is = runs_done done c.if-word-ge-STOP.false a.out.now in (
+      rw c.left_in.ensures at c.success.ensures ∙ ap (λ (x : Outcome). x.answer) (sym is),
+      rw count_is at c.deliver.ensures ∙ ap (λ (x : Outcome). x.out) (sym is),
+    )
+
 pub fetch-requires : goal.fetch-requires
 fetch-requires c =
     let count_is = ap (λ (l : List ℕ). length l / 8) c.fields.ensures in
@@ -102,25 +124,3 @@ overflow_sub-fuel c =
           rows_are constants_are nodes_are c.run-word.ensures;
     } in
     omega (arith, c.left_in.ensures, left-done done c.if-word-ge-STOP.false)
-
-pub returns : goal.returns
-unfolding ended
-returns c =
-    let a = c.args in
-    let rows_are = c.levels-rows.ensures in
-    let nodes_are = c.nodes-nodes.ensures in
-    let constants_are = c.constants.ensures in
-    let first = rw c.levels-rows.ensures at c.first_task-task.ensures in
-    let done : Done a.sheet.now a.store.now a.mode c.fetch.new.work c.first_task-task.result a.fuel c.run-word.new.work c.run-word.result =
-    record {
-      same = c.fetch.ensures.is;
-      first = first;
-      ran =
-          moved (λ rows constants nodes. Ran (rows ∷ constants ∷ nodes ∷ []) c.fetch.new.work (last_of nodes) c.first_task-task.result a.fuel c.run-word.new.work c.run-word.result)
-          rows_are constants_are nodes_are c.run-word.ensures;
-    } in
-    let count_is = ap (λ (l : List ℕ). length l / 8) c.fields.ensures in
-    let is = runs_done done c.if-word-ge-STOP.false a.out.now in (
-      rw c.left_in.ensures at c.success.ensures ∙ ap (λ (x : Outcome). x.answer) (sym is),
-      rw count_is at c.deliver.ensures ∙ ap (λ (x : Outcome). x.out) (sym is),
-    )
