@@ -4,9 +4,9 @@ use Prim.Native.Nat.{ℕ, ◌+◌, ◌*◌, ◌/◌, ◌%◌, ◌^◌, ◌≤◌
 use native.Mathlib.Omega.{arith}
 use mathlib.Core.Path.{◌≡◌, sym, ◌∙◌}
 use mathlib.Core.Bool.{Bool, true, false, ◌&&◌}
-use mathlib.Core.List.{List, [], ◌∷◌, ◌++◌}
+use mathlib.Core.List.{List, ◌++◌}
 use lib.ListN.{length, drop}
-use lib.Dec.{leb, ltb}
+use lib.Dec.{ltb}
 use Rattle.basis.specs.declared.answer.Answer.{Answer}
 use Rattle.basis.specs.Numbers as numbers
 use Rattle.basis.specs.Answer.{answer, success, refusal, word_of, answer_in, Outcome}
@@ -28,9 +28,9 @@ use Rattle.rules.specs.Ends.{stop_number, Why, out_of_range, divisor_zero, not_b
 use Rattle.rules.specs.LevelMarks.{marking}
 use Rattle.rules.proofs.Stops.{EndUpTo, upto_done, upto_spent, upto_stopped, cmd_upto, exec_upto}
 use Rattle.handout.specs.Requests.{asked_count, request_right}
-use Rattle.handout.specs.Answers.{answer_length, first_refusing}
+use Rattle.handout.specs.Answers.{first_refusing}
 use Rattle.handout.proofs.Requesting.{right_has}
-use Rattle.beltuqash.specs.Calls.{sheet_checks, store_checks, run_checks, request_checks, refused_position, load, ended, run_from, run, answered, hand_out, Tells, Yields}
+use Rattle.beltuqash.specs.Calls.{sheet_checks, store_checks, run_checks, request_checks, load, ended, run_from, run, answered, hand_out, Tells, Yields}
 use Rattle.beltuqash.specs.Inside.Given.{Given}
 use Rattle.beltuqash.proofs.Checking.{load_is, run_holds, nodes-long}
 
