@@ -10,6 +10,17 @@ use Rattle.report.proofs.Putting.{begins_as}
 use Rattle.report.proofs.Reporting.{answer-told, done-fields}
 use Rattle.report.proofs.report_run.Goals as goal
 
+pub returns : goal.returns
+unfolding run_text outcome_of
+returns c =
+    let f = c.args.file.now in
+    let ran : run c.sheet-sheet.result.now c.store-store.result.now c.mode-mode.result c.fuel-fuel.result lent ≡ outcome_of f =
+    rw (c.sheet-sheet.ensures, c.store-store.ensures, c.mode-mode.ensures, c.fuel-fuel.ensures) in
+    let answers : Yields (outcome_of f) c.beltuqash_run-word.result c.beltuqash_run-word.new.out = rw (← ran) c.beltuqash_run-word.ensures.yields in
+    let answer_is : c.unpack.result ≡ (outcome_of f).answer = rw (c.unpack.ensures, answers.0) (answer-told _) in
+    let fields_are = c.fields.ensures ∙ ap fields_of c.sheet-sheet.ensures in
+    begins_as (rw (answer_is, fields_are, answers.1)) c.print.ensures
+
 pub print-requires : goal.print-requires
 unfolding outcome_of
 print-requires c =
@@ -24,14 +35,3 @@ print-requires c =
           record { few = few; entries = omega (arith, c.beltuqash_run-word.auto) }),
       c.requires.1,
     )
-
-pub returns : goal.returns
-unfolding run_text outcome_of
-returns c =
-    let f = c.args.file.now in
-    let ran : run c.sheet-sheet.result.now c.store-store.result.now c.mode-mode.result c.fuel-fuel.result lent ≡ outcome_of f =
-    rw (c.sheet-sheet.ensures, c.store-store.ensures, c.mode-mode.ensures, c.fuel-fuel.ensures) in
-    let answers : Yields (outcome_of f) c.beltuqash_run-word.result c.beltuqash_run-word.new.out = rw (← ran) c.beltuqash_run-word.ensures.yields in
-    let answer_is : c.unpack.result ≡ (outcome_of f).answer = rw (c.unpack.ensures, answers.0) (answer-told _) in
-    let fields_are = c.fields.ensures ∙ ap fields_of c.sheet-sheet.ensures in
-    begins_as (rw (answer_is, fields_are, answers.1)) c.print.ensures
