@@ -1,5 +1,5 @@
-// The exported calls, on numbers and byte slices. Each answers one word: number, place and units. `specs/Calls` says what each call does; lent memory
-// that a call only reads stays as it was.
+// The calls, on numbers and byte slices. Each answers one word: number, place and units. `specs/Calls` says what each call does; lent memory that a
+// call only reads stays as it was. `beltuqash_c` has them for C.
 #![tactic(auto)]
 
 pub mod checks;

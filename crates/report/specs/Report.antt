@@ -28,8 +28,7 @@ report_of file = cond (is_cut file) (refused_text (refusal numbers.sheet_length 
 abbrev pub longest : ℕ
 longest = 2128
 
--- The first `end` bytes of a buffer are the text. `counted` follows from `within`: the proof that Rattle makes of `&out[..end]` looks for both, as with
--- io's `Counts`.
+-- The first `end` bytes of a buffer are the text. `counted` follows from `within`, and spares a caller's `&out[..end]` a proof file, as in io's `IsPrefixLen`.
 pub record Begins (out text : List ℕ) (end : ℕ) : Type 0 where
   pub within : end ≤ length out
   pub counted : end ≡ length (take end out)

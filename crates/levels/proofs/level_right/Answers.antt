@@ -1,4 +1,4 @@
--- Every pair that the loop has passed is right.
+-- A pair that is not right decides; past the last one every pair is.
 use borrow.Author.Count.{below_more}
 use native.Mathlib.Omega.{arith}
 use mathlib.Core.Path.{sym, ◌∙◌}

@@ -1,3 +1,4 @@
+-- Every pair that the loop has passed is right.
 use Prim.Native.Nat.{ℕ, ◌-◌, ◌<◌}
 use mathlib.Core.Path.{◌≡◌}
 use mathlib.Core.Bool.{true}

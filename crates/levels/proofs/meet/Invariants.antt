@@ -1,3 +1,4 @@
+-- What the search of `Scan` knows of the level found so far.
 use Prim.Native.Nat.{◌-◌}
 use Rattle.levels.specs.Levels.{count, meet_of}
 use Rattle.levels.proofs.Scan.{Found}

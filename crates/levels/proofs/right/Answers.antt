@@ -1,4 +1,4 @@
--- Every level that the loop has passed makes right pairs; then the rows are right exactly if some row has every level.
+-- A level that makes a wrong pair decides; past the last one the rows are right exactly if some row has every level.
 use borrow.Author.Count.{below_more}
 use native.Mathlib.Omega.{arith}
 use mathlib.Core.Path.{sym, ◌∙◌}

@@ -1,3 +1,4 @@
+-- Every level that the loop has passed makes right pairs.
 use Prim.Native.Nat.{ℕ, ◌-◌, ◌<◌}
 use mathlib.Core.Path.{◌≡◌}
 use mathlib.Core.Bool.{true}

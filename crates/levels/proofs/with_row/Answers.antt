@@ -1,4 +1,4 @@
--- No row that the loop has passed is the one wanted; so the first that is wanted is found, and past the last there is none.
+-- The first row that is the one wanted is found; past the last one there is none.
 use borrow.Author.Count.{below_more}
 use borrow.Author.Tests.{le-ltb}
 use native.Mathlib.Omega.{arith}

@@ -1,3 +1,4 @@
+-- No row that the loop has passed is the one wanted.
 use Prim.Native.Nat.{ℕ, ◌-◌, ◌<◌}
 use mathlib.Core.Path.{◌≡◌}
 use Rattle.levels.specs.Levels.{count, row_at}

@@ -1,4 +1,4 @@
--- The loop's invariant: the bytes passed may follow each other.
+-- A first byte that is no letter decides, or one that may not follow; past the last byte all may.
 use Prim.Native.Nat.{◌*◌}
 use native.Mathlib.Omega.{arith}
 use mathlib.Core.Path.{sym, ◌∙◌}

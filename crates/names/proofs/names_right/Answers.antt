@@ -1,4 +1,4 @@
--- The loop's invariant: the names passed are good, and each is new.
+-- A name that is not good or not new decides; past the last one all are both.
 use mathlib.Core.Path.{refl, sym, ap, ◌∙◌}
 use mathlib.Core.Bool.{Bool, ◌&&◌}
 use Rattle.basis.proofs.Tests.{and_of_lem, and_false, all_none, all_more, all_done, all-fails}

@@ -1,4 +1,4 @@
--- The loop's invariant: the names passed are others.
+-- A name that is the same decides; past the last one all are others.
 use native.Mathlib.Omega.{arith}
 use mathlib.Core.Path.{sym, ap, ◌∙◌}
 use mathlib.Core.Bool.{not}

@@ -1,4 +1,4 @@
--- The loop's invariant: the bytes passed are the same.
+-- Bytes that differ decide; past the last one all are the same.
 use native.Mathlib.Omega.{arith}
 use mathlib.Core.Path.{sym}
 use borrow.Author.Tests.{eq-eqb, ne_eqb}

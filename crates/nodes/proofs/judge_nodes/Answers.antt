@@ -1,4 +1,4 @@
--- The loop's invariant: the nodes passed are free of faults, and their children are counted.
+-- The first node at fault is told; past the last one all are free of faults, and their children are counted.
 use Prim.Native.Nat.{◌≤◌}
 use native.Mathlib.Omega.{arith}
 use native.Mathlib.Nat.{le_antisymm}

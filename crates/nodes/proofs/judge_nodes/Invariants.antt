@@ -1,3 +1,4 @@
+-- The nodes passed are free of faults, and their children are counted.
 use Prim.Native.Nat.{◌-◌, ◌≤◌}
 use mathlib.Core.Path.{◌≡◌}
 use lib.ListN.{length}

@@ -1,3 +1,4 @@
+-- Each arm asks what the fault asks.
 use Rattle.nodes.specs.Nodes.{slot_right}
 use Rattle.nodes.proofs.slot_right.Goals as goal
 

@@ -1,4 +1,4 @@
--- The loop's invariant: the slots passed are free of the fault.
+-- A slot with the fault decides; past the last one all are free of it.
 use native.Mathlib.Omega.{arith}
 use mathlib.Core.Path.{sym, ◌∙◌}
 use Rattle.basis.proofs.Tests.{all_none, all_more, all_done, all-fails}
@@ -9,7 +9,6 @@ pub loop-k-init : goal.loop-k-init
 loop-k-init c = (omega arith, c.kind_of-kind.ensures, all_none _)
 
 -- what the code's test says of the slot
-
 pub returns-then-not-slot_right : goal.returns-then-not-slot_right
 unfolding slots_right
 returns-then-not-slot_right c =

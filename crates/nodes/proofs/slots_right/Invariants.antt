@@ -1,3 +1,4 @@
+-- The slots passed are free of the fault.
 use Prim.Native.Nat.{◌-◌, ◌≤◌}
 use mathlib.Core.Path.{◌≡◌}
 use mathlib.Core.Bool.{true}

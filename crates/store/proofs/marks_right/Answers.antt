@@ -1,11 +1,9 @@
--- Every mark so far is taken.
+-- A mark that is not taken decides; past the last one every mark is.
 use mathlib.Core.Path.{sym, ap, ◌∙◌}
 use Rattle.basis.proofs.Tests.{all_none, all_more, all_done, all-fails}
 use Rattle.store.specs.Marks.{mark_taken, mode_of}
 use Rattle.store.specs.Stores.{marks_right}
 use Rattle.store.proofs.marks_right.Goals as goal
-
--- whether the mark at hand is taken
 
 pub loop-i-init : goal.loop-i-init
 loop-i-init c = all_none _

@@ -1,3 +1,4 @@
+-- Every mark so far is taken.
 use Prim.Native.Nat.{◌-◌}
 use mathlib.Core.Path.{◌≡◌}
 use mathlib.Core.Bool.{true}

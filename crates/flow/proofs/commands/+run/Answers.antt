@@ -1,4 +1,4 @@
--- Each turn of the loop leaves to do what gives what the whole command gives. The node number falls at each call, and in the loop it or the fuel.
+-- Each call, each return and each turn, by what the command at the node is.
 use Prim.Native.Nat.{suc, ◌-◌, ◌≤◌}
 use native.Mathlib.Omega.{arith}
 use mathlib.Core.List.{map}

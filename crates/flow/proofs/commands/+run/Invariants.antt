@@ -1,3 +1,4 @@
+-- Each turn of the loop leaves to do what gives what the whole command gives. The node number falls at each call, and in the loop it or the fuel.
 use Prim.Native.Nat.{◌+◌}
 use mathlib.Core.List.{map}
 use Rattle.flow.proofs.Running.{Going}

@@ -1,3 +1,4 @@
+-- The count, then the entries so far, then what stood there.
 use Prim.Native.Nat.{◌-◌, ◌%◌, ◌≤◌}
 use mathlib.Core.Path.{◌≡◌}
 use lib.ListN.{length}

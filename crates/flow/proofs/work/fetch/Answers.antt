@@ -1,4 +1,4 @@
--- The fields so far, then zeros.
+-- One field more at each turn; past the last one the work store is filled.
 use native.Mathlib.Omega.{arith}
 use native.Mathlib.Nat.{le_antisymm}
 use Prim.Native.Nat.{ℕ}

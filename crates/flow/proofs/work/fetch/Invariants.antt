@@ -1,3 +1,4 @@
+-- The fields so far, then zeros.
 use Prim.Native.Nat.{◌-◌, ◌≤◌}
 use Rattle.flow.proofs.Fetching.{Filling}
 use Rattle.flow.proofs.work.fetch.Given as goal

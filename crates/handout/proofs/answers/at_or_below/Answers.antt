@@ -10,7 +10,6 @@ pub level_of-requires : goal.level_of-requires
 level_of-requires c = rw c.mark_at.ensures.0 (known_is _ _ c.requires.mark).0
 
 -- the level that was asked about is the field's
-
 pub at_or_below-requires : goal.at_or_below-requires
 at_or_below-requires c =
     let p = c.requires in

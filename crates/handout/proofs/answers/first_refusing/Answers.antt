@@ -1,4 +1,4 @@
--- No field so far refuses.
+-- The first field that refuses is told; past the last position none does.
 use Prim.Native.Nat.{ℕ, ◌<◌}
 use native.Mathlib.Omega.{arith}
 use native.Mathlib.Nat.{le_antisymm}

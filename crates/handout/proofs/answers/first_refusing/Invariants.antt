@@ -1,3 +1,4 @@
+-- No field so far refuses.
 use Prim.Native.Nat.{◌-◌, ◌≤◌}
 use Rattle.basis.proofs.Tests.{None}
 use Rattle.levels.specs.Lattice.{lattice}

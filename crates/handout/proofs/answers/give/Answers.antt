@@ -1,4 +1,4 @@
--- The count, then the entries so far, then what stood there.
+-- One entry more at each turn; past the last position the answer is written.
 use native.Mathlib.Omega.{arith}
 use native.Mathlib.Nat.{le_antisymm}
 use Prim.Native.Nat.{ℕ, ◌+◌, ◌%◌, ◌≤◌, ◌<◌}

@@ -1,4 +1,4 @@
--- what was asked is whether the field's mark is partial
+-- What was asked is whether the field's mark is partial.
 use Prim.Native.Nat.{ℕ}
 use mathlib.Core.Path.{sym, ap, ◌∙◌}
 use Rattle.store.specs.Marks.{is_partial, mark_of}

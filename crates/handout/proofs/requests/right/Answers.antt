@@ -23,8 +23,6 @@ loop-i-init c = all_none _
 pub field_at-requires : goal.field_at-requires
 field_at-requires c = omega (arith, c.loop-i-test.true, c.if-request-asked.false)
 
--- the request, and the position
-
 pub returns-then-fields-field_at : goal.returns-then-fields-field_at
 returns-then-fields-field_at c =
     let inside : c.loop-i.i < asked_count ((c.args.request.now)) = omega (arith, c.loop-i-test.true, c.count-asked.ensures.0) in

@@ -1,3 +1,4 @@
+-- The field numbers so far are known.
 use Prim.Native.Nat.{◌-◌}
 use Rattle.handout.proofs.Requesting.{fields_known}
 use Rattle.handout.proofs.requests.right.Given as goal

@@ -1,4 +1,4 @@
--- The loop's invariant: whether the counts passed are all 1.
+-- One count more at each turn; past the last one it is all of them.
 use Prim.Native.Nat.{ℕ}
 use native.Mathlib.Nat.{le_antisymm}
 use native.Mathlib.Omega.{arith}

@@ -1,3 +1,4 @@
+-- Whether the counts passed are all 1.
 use Prim.Native.Nat.{◌-◌, ◌≤◌}
 use mathlib.Core.Path.{◌≡◌}
 use lib.Dec.{eqb}

@@ -1,4 +1,4 @@
--- The loop's invariant: the lines of the fields passed are put.
+-- One line more at each turn; past the last field all are put.
 use native.Mathlib.Omega.{arith}
 use native.Mathlib.Nat.{le_antisymm}
 use mathlib.Core.Path.{sym}

@@ -1,3 +1,4 @@
+-- The lines of the fields passed are put.
 use Prim.Native.Nat.{◌-◌, ◌/◌, ◌≤◌}
 use lib.ListN.{length}
 use Rattle.report.specs.Inside.Putting.{Put}

@@ -1,4 +1,4 @@
--- The loop's invariant: the bytes passed are put, without zeros.
+-- One byte more at each turn, or none where it is zero; past the last one the name is put.
 use native.Mathlib.Omega.{arith}
 use native.Mathlib.Nat.{le_antisymm}
 use mathlib.Core.Path.{sym}

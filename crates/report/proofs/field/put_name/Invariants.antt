@@ -1,3 +1,4 @@
+-- The bytes passed are put, without zeros.
 use Prim.Native.Nat.{◌-◌, ◌≤◌}
 use Rattle.names.specs.Names.{name_byte}
 use Rattle.report.specs.Inside.Putting.{Put}

@@ -1,4 +1,4 @@
--- The loop's invariant: the bytes passed are put.
+-- One byte more at each turn; past the last one the text is put.
 use native.Mathlib.Omega.{arith}
 use native.Mathlib.Numerals.{add-one}
 use mathlib.Core.Path.{sym}

@@ -1,3 +1,4 @@
+-- The bytes passed are put.
 use Prim.Native.Nat.{◌-◌, ◌≤◌}
 use lib.ListN.{length, take}
 use Rattle.report.specs.Inside.Putting.{Put}

@@ -19,7 +19,7 @@ child_fits-returns t c =
     let asked = sym (rw (c.held_in.ensures, c.kind_of.ensures) at c.is_child.ensures) in
     λ values. sym (ap (λ (d : ℕ). leb d c.args.most) (no_child values _ _ _ (asked ∙ c.if-is_child.false)) ∙ le-leb 0 c.args.most zero-le)
 
--- ── the three places of a node ──────────────────────────────────────────────────────────────
+-- ── the three slots of a node ───────────────────────────────────────────────────────────────
 
 pub fits-returns-then-most-eq0 : goal.fits-returns-then-most-eq0
 fits-returns-then-most-eq0 t c =
