@@ -1,12 +1,13 @@
 -- What an answer shows: which fields refuse, an entry of five bytes for each that does not, and the entries of a request that none refuses.
-use Prim.Native.Nat.{ℕ, zero, suc, ◌+◌, ◌*◌, ◌<◌}
+use Prim.Native.Nat.{ℕ, zero, suc, ◌+◌, ◌*◌, ◌≤◌, ◌<◌}
 use native.Mathlib.Omega.{arith}
+use native.Mathlib.Nat.{le_antisymm}
 use native.Mathlib.Numerals.{add-one}
 use mathlib.Core.Path.{◌≡◌, refl, sym, ap, ◌∙◌}
 use mathlib.Core.Bool.{true, false, true≢false}
 use mathlib.Core.List.{List, [], ◌∷◌, ◌++◌}
 use lib.ListN.{length, length-append}
-use Rattle.basis.proofs.Tests.{split, None}
+use Rattle.basis.proofs.Tests.{split, None, first-most, none_first}
 use Rattle.value.specs.Bytes.{bytes_of}
 use Rattle.value.specs.declared.Value.{Value}
 use Rattle.levels.specs.Lattice.{Lattice}
@@ -15,7 +16,7 @@ use Rattle.store.specs.Marks.{Mark, whole, partial, level_of, is_partial, mark_o
 use Rattle.store.specs.Stores.{mark_at, cell_at, store_of}
 use Rattle.store.proofs.Marks.{is_whole, is_partial_lem, marks-known}
 use Rattle.handout.specs.Requests.{asked_count, field_asked}
-use Rattle.handout.specs.Answers.{answer_entry, shown, all_shown, refuses, refuses_at}
+use Rattle.handout.specs.Answers.{answer_entry, shown, all_shown, refuses, refuses_at, first_refusing}
 use Rattle.handout.specs.Inside.Asks.{Faces, AsksAs}
 use Rattle.handout.proofs.Requesting.{right_has}
 use Rattle.handout.proofs.Alike.{shown_elsewhere}
@@ -59,6 +60,10 @@ module _ (𝓛 : Lattice) (reader : ℕ) where
   -- ── a request ─────────────────────────────────────────────────────────────────────────────
 
   module _ (σ : Store Mark) (request : List ℕ) where
+    pub none-refuses : asked_count request ≤ first_refusing 𝓛 reader σ request → None (asked_count request) (refuses_at 𝓛 reader σ request)
+    unfolding first_refusing
+    none-refuses h = none_first _ _ (le_antisymm (first-most _ _) h)
+
     -- the entries so far
     pub none-shown : all_shown 𝓛 reader σ request 0 ≡ []
     unfolding all_shown

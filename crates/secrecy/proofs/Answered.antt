@@ -1,7 +1,6 @@
 -- One request on two stores that agree for its reader: where both are answered, no field refuses, and so both answers are the same bytes.
 use Prim.Native.Nat.{ℕ, ◌≤◌}
 use native.Mathlib.Omega.{arith}
-use native.Mathlib.Nat.{le_antisymm}
 use mathlib.Core.Path.{◌≡◌, sym, ap, ◌∙◌}
 use mathlib.Core.Bool.{true}
 use mathlib.Core.List.{List}
@@ -11,7 +10,7 @@ use lib.ListN.{length, take, drop}
 use lib.Seq.{take_at, drop_at}
 use Rattle.basis.specs.Numbers as numbers
 use Rattle.basis.specs.Bytes.{word_at}
-use Rattle.basis.proofs.Tests.{None, both, first-most, none_first}
+use Rattle.basis.proofs.Tests.{None, both}
 use Rattle.levels.specs.Lattice.{Lattice, lattice}
 use Rattle.levels.proofs.Laws.{laws}
 use Rattle.sections.specs.Sections.{levels_of}
@@ -19,9 +18,9 @@ use Rattle.sheet.specs.Load.{field_count}
 use Rattle.store.specs.Stores.{store_length, store_of, store_fits}
 use Rattle.rules.specs.Agreement.{StoresAgree}
 use Rattle.handout.specs.Requests.{asked_count, field_asked}
-use Rattle.handout.specs.Answers.{answer_length, answer_bytes, refuses_at, first_refusing}
+use Rattle.handout.specs.Answers.{answer_length, answer_bytes, refuses_at}
 use Rattle.handout.proofs.Requesting.{right_has}
-use Rattle.handout.proofs.Answering.{entries-length}
+use Rattle.handout.proofs.Answering.{none-refuses, entries-length}
 use Rattle.handout.proofs.Alike.{answers_alike}
 use Rattle.basis.specs.Answer.{Outcome}
 use Rattle.basis.proofs.Checks.{past_checks}
@@ -45,10 +44,6 @@ module _ (sheet : List ℕ) (R : ℕ) (request store lent : List ℕ) where
     pub written : take (answer_length request) (hand_out sheet store R request lent).out ≡ answer_bytes (order sheet) R (store_of store) request
     pub later : drop (answer_length request) (hand_out sheet store R request lent).out ≡ drop (answer_length request) lent
 
-  none-refuses : asked_count request ≤ first_refusing (order sheet) R (store_of store) request → NoneRefuses
-  unfolding first_refusing
-  none-refuses h = none_first _ _ (le_antisymm (first-most _ _) h)
-
   reply-length : NoneRefuses → length (answer_bytes (order sheet) R (store_of store) request) ≡ answer_length request
   unfolding answer_bytes
   reply-length none = omega (arith, entries-length (order sheet) R (store_of store) request (asked_count request) none)
@@ -59,7 +54,7 @@ module _ (sheet : List ℕ) (R : ℕ) (request store lent : List ℕ) where
       let checks = hand_out_checks sheet store R request (length lent) in
       let (hold, is) = past_checks checks lent (answered sheet store R request lent) (hand_out_numbered sheet store R request (length lent)) e in
       let (requested, room, first) = hand_out_holds sheet store R request (length lent) hold in
-      let none = none-refuses first in
+      let none = none-refuses (order sheet) R (store_of store) request first in
       record {
         requested = requested;
         none = none;

@@ -1,27 +1,19 @@
 -- One entry more at each turn; past the last position the answer is written.
 use native.Mathlib.Omega.{arith}
 use native.Mathlib.Nat.{le_antisymm}
-use Prim.Native.Nat.{ℕ, ◌+◌, ◌%◌, ◌≤◌, ◌<◌}
+use Prim.Native.Nat.{ℕ, ◌+◌, ◌%◌, ◌<◌}
 use mathlib.Core.Path.{refl, sym, ap, ap₂, ◌∙◌}
 use mathlib.Core.List.{List}
 use lib.ListN.{length-set}
 use lib.Seq.{sets}
-use Rattle.basis.proofs.Tests.{None, first-most, none_first}
-use Rattle.levels.specs.Lattice.{Lattice, lattice}
-use Rattle.store.specs.Cells.{Store}
-use Rattle.store.specs.Marks.{Mark}
+use Rattle.levels.specs.Lattice.{lattice}
 use Rattle.store.specs.Stores.{store_of}
 use Rattle.basis.proofs.Filling.{headed, headed_length, filled, fill_first, fill_next, fill_last}
 use Rattle.handout.specs.Requests.{asked_count}
-use Rattle.handout.specs.Answers.{answer_at, shown, all_shown, answer_bytes, refuses_at, first_refusing}
+use Rattle.handout.specs.Answers.{answer_at, shown, all_shown, answer_bytes}
 use Rattle.handout.proofs.Requesting.{right_has}
-use Rattle.handout.proofs.Answering.{faces, none-shown, one_shown_more, entry_length_lem, entries-length}
+use Rattle.handout.proofs.Answering.{faces, none-refuses, none-shown, one_shown_more, entry_length_lem, entries-length}
 use Rattle.handout.proofs.answers.give.Goals as goal
-
-none-refuses : (𝓛 : Lattice) (reader : ℕ) (σ : Store Mark) (request : List ℕ) → asked_count request ≤ first_refusing 𝓛 reader σ request
-    → None (asked_count request) (refuses_at 𝓛 reader σ request)
-unfolding first_refusing
-none-refuses 𝓛 reader σ request h = none_first _ _ (le_antisymm (first-most _ _) h)
 
 pub count-asked-requires : goal.count-asked-requires
 count-asked-requires c = omega (arith, (right_has _ _ c.requires.asks_as.right_request).size)
