@@ -38,7 +38,7 @@ module _ (𝓛 : Lattice) (𝓘 : Laws 𝓛) where
       entered_above : (context : ℕ) (m : Mark) → 𝓛.le a context ≡ true → Fine (λ c. 𝓛.le a c ≡ true) (entered 𝓛 context m)
       unfolding entered
       entered_above context (whole b) h = good (𝓘.le_trans h (𝓘.join_upper_left context b))
-      entered_above context (partial b) h = search (bad, good, 𝓘.le_trans h (𝓘.join_upper_left context b))
+      entered_above context (partial b) h = bad
 
       raised_above : (m : Mark) (context : ℕ) → 𝓛.le a context ≡ true → Above (joined 𝓛 m (whole context))
       unfolding joined

@@ -11,20 +11,29 @@ use Rattle.marks.proofs.enter.Goals as goal
 pub returns : goal.returns
 unfolding meaning
 returns c =
+    let rows = rows_in (map (λ x. x.now) c.args.parts.now) in
+    let run = run_in c.args.task in
+    let context = context_in c.args.task in
     let p = c.requires in
-    enter-whole ((rows_in (map (λ x. x.now) c.args.parts.now))) (style_in ((run_in c.args.task))) ((run_in c.args.task)) c.args.n ((context_in c.args.task)) c.args.m p.askable.order p.context-known (sym c.is_partial.ensures ∙ c.if-is_partial.false) (rw (c.rows_in.ensures, c.context_in-context.ensures) at c.join.ensures)
+    enter-whole rows (style_in run) run c.args.n context c.args.m p.askable.order p.context-known (sym c.is_partial.ensures ∙ c.if-is_partial.false) (rw (c.rows_in.ensures, c.context_in-context.ensures) at c.join.ensures)
 
 pub returns-then-m-context : goal.returns-then-m-context
 unfolding meaning
 returns-then-m-context c =
+    let rows = rows_in (map (λ x. x.now) c.args.parts.now) in
+    let run = run_in c.args.task in
+    let context = context_in c.args.task in
     let p = c.requires in
-    enter-same ((rows_in (map (λ x. x.now) c.args.parts.now))) (style_in ((run_in c.args.task))) ((run_in c.args.task)) c.args.n ((context_in c.args.task)) c.args.m p.askable.order p.context-known (c.if-m-context.true ∙ c.context_in-context.ensures)
+    enter-same rows (style_in run) run c.args.n context c.args.m p.askable.order p.context-known (c.if-m-context.true ∙ c.context_in-context.ensures)
 
 pub returns-then-is_partial : goal.returns-then-is_partial
 unfolding meaning
 returns-then-is_partial c =
+    let rows = rows_in (map (λ x. x.now) c.args.parts.now) in
+    let run = run_in c.args.task in
+    let context = context_in c.args.task in
     let p = c.requires in
-    enter_partial ((rows_in (map (λ x. x.now) c.args.parts.now))) (style_in ((run_in c.args.task))) ((run_in c.args.task)) c.args.n ((context_in c.args.task)) c.args.m p.askable.order p.context-known (sym c.is_partial.ensures ∙ c.if-is_partial.true) c.stop.ensures
+    enter_partial rows (style_in run) run c.args.n context c.args.m p.askable.order p.context-known (sym c.is_partial.ensures ∙ c.if-is_partial.true) c.stop.ensures
 
 pub join-requires : goal.join-requires
 unfolding meaning

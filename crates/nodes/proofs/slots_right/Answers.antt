@@ -8,17 +8,17 @@ use Rattle.nodes.proofs.slots_right.Goals as goal
 pub loop-k-init : goal.loop-k-init
 loop-k-init c = (omega arith, c.kind_of-kind.ensures, all_none _)
 
--- what the code's test says of the slot
 pub returns-then-not-slot_right : goal.returns-then-not-slot_right
 unfolding slots_right
 returns-then-not-slot_right c =
-    let inside = c.loop-k-test.true in
-    sym (all-fails _ 3 _ inside ((sym (rw (c.held_in.ensures, c.loop-k.invariant.1, c.slot-w.ensures.0) at c.slot_right.ensures)) ∙ c.if-not-slot_right.true))
+    let wrong = sym (rw (c.held_in.ensures, c.loop-k.invariant.1, c.slot-w.ensures.0) at c.slot_right.ensures) ∙ c.if-not-slot_right.true in
+    sym (all-fails _ 3 _ c.loop-k-test.true wrong)
 
 pub loop-k-preserved : goal.loop-k-preserved
 loop-k-preserved c =
     let inv = c.loop-k.invariant in
-    (omega arith, inv.1, all_more _ _ inv.2 ((sym (rw (c.held_in.ensures, c.loop-k.invariant.1, c.slot-w.ensures.0) at c.slot_right.ensures)) ∙ c.if-not-slot_right.false))
+    let right = sym (rw (c.held_in.ensures, c.loop-k.invariant.1, c.slot-w.ensures.0) at c.slot_right.ensures) ∙ c.if-not-slot_right.false in
+    (omega arith, inv.1, all_more _ _ inv.2 right)
 
 pub returns : goal.returns
 unfolding slots_right

@@ -37,6 +37,17 @@ module _ (s : List ℕ) where
       → v ≡ nodes_verdict nodes (length fields / 8) (length constants / 4) → v ≡ nodes_verdict (nodes_of s) (field_count s) (constant_count s)
   nodes f c n told = rw (n, c, f) at told
 
+  nodes_pass : {v w : Verdict} {rows fields constants part : List ℕ} {p q r t : Bool} → v ≡ sections_verdict s → p ≡ passes_of v → p ≡ true
+      → rows ≡ levels_of s → q ≡ right rows → q ≡ true → fields ≡ fields_of s → r ≡ names_right fields → r ≡ true → constants ≡ constants_of s → part ≡ nodes_of s
+      → w ≡ nodes_verdict part (length fields / 8) (length constants / 4) → t ≡ passes_of w → t ≡ true → NodesPass s
+  nodes_pass v p passes rows q good f r named c n w t faultless =
+      record {
+        layout = layout v p passes;
+        levels = levels rows q ∙ good;
+        names = names f r ∙ named;
+        nodes = sym (nodes f c n w) ∙ passes-is _ (sym t ∙ faultless);
+      }
+
   -- the nodes' part, with a last node
   last_in : NodesPass s → {nodes : List ℕ} → nodes ≡ nodes_of s → (1 ≤ node_count nodes) × In nodes (last_of nodes) × (node_count nodes ≤ 1024)
   last_in p {nodes} is =
@@ -85,60 +96,47 @@ returns-then-not-passes-2 c =
 pub overflow_sub-last : goal.overflow_sub-last
 overflow_sub-last c =
     let s = c.args.sheet.now in
-    let layout_passes = layout s c.judge_sections-layout.ensures c.passes.ensures c.if-not-passes.false in
-    let levels_are = levels s c.levels.ensures c.right.ensures in
-    let names_are = names s c.fields-fields.ensures c.names_right.ensures in
-    let nodes_are = nodes s c.fields-fields.ensures c.constants-constants.ensures c.nodes-nodes.ensures c.judge_nodes-faults.ensures.0 in
-    let faultless = sym c.passes-2.ensures ∙ c.if-not-passes-2.false in
-    let passed : NodesPass s = record { layout = layout_passes; levels = levels_are ∙ c.if-not-right.false; names = names_are ∙ c.if-not-names_right.false; nodes = sym nodes_are ∙ passes-is _ faultless } in
+    let passed = nodes_pass s c.judge_sections-layout.ensures c.passes.ensures c.if-not-passes.false c.levels.ensures c.right.ensures c.if-not-right.false
+    c.fields-fields.ensures c.names_right.ensures c.if-not-names_right.false c.constants-constants.ensures c.nodes-nodes.ensures
+    c.judge_nodes-faults.ensures.0 c.passes-2.ensures c.if-not-passes-2.false in
     let last = last_in s passed c.nodes-nodes.ensures in
     last.0
 
 pub all_once-requires : goal.all_once-requires
 all_once-requires c =
     let s = c.args.sheet.now in
-    let layout_passes = layout s c.judge_sections-layout.ensures c.passes.ensures c.if-not-passes.false in
-    let levels_are = levels s c.levels.ensures c.right.ensures in
-    let names_are = names s c.fields-fields.ensures c.names_right.ensures in
-    let nodes_are = nodes s c.fields-fields.ensures c.constants-constants.ensures c.nodes-nodes.ensures c.judge_nodes-faults.ensures.0 in
-    let faultless = sym c.passes-2.ensures ∙ c.if-not-passes-2.false in
-    let passed : NodesPass s = record { layout = layout_passes; levels = levels_are ∙ c.if-not-right.false; names = names_are ∙ c.if-not-names_right.false; nodes = sym nodes_are ∙ passes-is _ faultless } in
+    let passed = nodes_pass s c.judge_sections-layout.ensures c.passes.ensures c.if-not-passes.false c.levels.ensures c.right.ensures c.if-not-right.false
+    c.fields-fields.ensures c.names_right.ensures c.if-not-names_right.false c.constants-constants.ensures c.nodes-nodes.ensures
+    c.judge_nodes-faults.ensures.0 c.passes-2.ensures c.if-not-passes-2.false in
     let last = last_in s passed c.nodes-nodes.ensures in
     omega (arith, last.2)
 
 pub returns-then-not-all_once : goal.returns-then-not-all_once
 returns-then-not-all_once c =
     let s = c.args.sheet.now in
-    let layout_passes = layout s c.judge_sections-layout.ensures c.passes.ensures c.if-not-passes.false in
-    let levels_are = levels s c.levels.ensures c.right.ensures in
-    let names_are = names s c.fields-fields.ensures c.names_right.ensures in
-    let nodes_are = nodes s c.fields-fields.ensures c.constants-constants.ensures c.nodes-nodes.ensures c.judge_nodes-faults.ensures.0 in
     let faultless = sym c.passes-2.ensures ∙ c.if-not-passes-2.false in
-    let passed : NodesPass s = record { layout = layout_passes; levels = levels_are ∙ c.if-not-right.false; names = names_are ∙ c.if-not-names_right.false; nodes = sym nodes_are ∙ passes-is _ faultless } in
+    let passed = nodes_pass s c.judge_sections-layout.ensures c.passes.ensures c.if-not-passes.false c.levels.ensures c.right.ensures c.if-not-right.false
+    c.fields-fields.ensures c.names_right.ensures c.if-not-names_right.false c.constants-constants.ensures c.nodes-nodes.ensures
+    c.judge_nodes-faults.ensures.0 c.passes-2.ensures c.if-not-passes-2.false in
     let once = sym (c.all_once.ensures ∙ all-counted (c.judge_nodes-faults.ensures.1 faultless) ∙ ap used_once c.nodes-nodes.ensures) in
     unused_told s passed (once ∙ c.if-not-all_once.true)
 
 pub kind_of-requires : goal.kind_of-requires
 kind_of-requires c =
     let s = c.args.sheet.now in
-    let layout_passes = layout s c.judge_sections-layout.ensures c.passes.ensures c.if-not-passes.false in
-    let levels_are = levels s c.levels.ensures c.right.ensures in
-    let names_are = names s c.fields-fields.ensures c.names_right.ensures in
-    let nodes_are = nodes s c.fields-fields.ensures c.constants-constants.ensures c.nodes-nodes.ensures c.judge_nodes-faults.ensures.0 in
-    let faultless = sym c.passes-2.ensures ∙ c.if-not-passes-2.false in
-    let passed : NodesPass s = record { layout = layout_passes; levels = levels_are ∙ c.if-not-right.false; names = names_are ∙ c.if-not-names_right.false; nodes = sym nodes_are ∙ passes-is _ faultless } in
+    let passed = nodes_pass s c.judge_sections-layout.ensures c.passes.ensures c.if-not-passes.false c.levels.ensures c.right.ensures c.if-not-right.false
+    c.fields-fields.ensures c.names_right.ensures c.if-not-names_right.false c.constants-constants.ensures c.nodes-nodes.ensures
+    c.judge_nodes-faults.ensures.0 c.passes-2.ensures c.if-not-passes-2.false in
     let last = last_in s passed c.nodes-nodes.ensures in
     last.1
 
 pub returns-then-kind_of-le4 : goal.returns-then-kind_of-le4
 returns-then-kind_of-le4 c =
     let s = c.args.sheet.now in
-    let layout_passes = layout s c.judge_sections-layout.ensures c.passes.ensures c.if-not-passes.false in
-    let levels_are = levels s c.levels.ensures c.right.ensures in
-    let names_are = names s c.fields-fields.ensures c.names_right.ensures in
-    let nodes_are = nodes s c.fields-fields.ensures c.constants-constants.ensures c.nodes-nodes.ensures c.judge_nodes-faults.ensures.0 in
     let faultless = sym c.passes-2.ensures ∙ c.if-not-passes-2.false in
-    let passed : NodesPass s = record { layout = layout_passes; levels = levels_are ∙ c.if-not-right.false; names = names_are ∙ c.if-not-names_right.false; nodes = sym nodes_are ∙ passes-is _ faultless } in
+    let passed = nodes_pass s c.judge_sections-layout.ensures c.passes.ensures c.if-not-passes.false c.levels.ensures c.right.ensures c.if-not-right.false
+    c.fields-fields.ensures c.names_right.ensures c.if-not-names_right.false c.constants-constants.ensures c.nodes-nodes.ensures
+    c.judge_nodes-faults.ensures.0 c.passes-2.ensures c.if-not-passes-2.false in
     let once = sym (c.all_once.ensures ∙ all-counted (c.judge_nodes-faults.ensures.1 faultless) ∙ ap used_once c.nodes-nodes.ensures) in
     let kind_is = rw c.nodes-nodes.ensures at c.kind_of.ensures in
     expression_told s passed (once ∙ c.if-not-all_once.false) (le-ltb 4 _ (rw kind_is at c.if-kind_of-le4.true))
@@ -146,24 +144,19 @@ returns-then-kind_of-le4 c =
 pub fits-requires : goal.fits-requires
 fits-requires c =
     let s = c.args.sheet.now in
-    let layout_passes = layout s c.judge_sections-layout.ensures c.passes.ensures c.if-not-passes.false in
-    let levels_are = levels s c.levels.ensures c.right.ensures in
-    let names_are = names s c.fields-fields.ensures c.names_right.ensures in
-    let nodes_are = nodes s c.fields-fields.ensures c.constants-constants.ensures c.nodes-nodes.ensures c.judge_nodes-faults.ensures.0 in
-    let faultless = sym c.passes-2.ensures ∙ c.if-not-passes-2.false in
-    let passed : NodesPass s = record { layout = layout_passes; levels = levels_are ∙ c.if-not-right.false; names = names_are ∙ c.if-not-names_right.false; nodes = sym nodes_are ∙ passes-is _ faultless } in
+    let passed = nodes_pass s c.judge_sections-layout.ensures c.passes.ensures c.if-not-passes.false c.levels.ensures c.right.ensures c.if-not-right.false
+    c.fields-fields.ensures c.names_right.ensures c.if-not-names_right.false c.constants-constants.ensures c.nodes-nodes.ensures
+    c.judge_nodes-faults.ensures.0 c.passes-2.ensures c.if-not-passes-2.false in
     let last = last_in s passed c.nodes-nodes.ensures in
     record { formed = rw c.nodes-nodes.ensures (formed s passed); inside = last.1 }
 
 pub returns-then-fits : goal.returns-then-fits
 returns-then-fits c =
     let s = c.args.sheet.now in
-    let layout_passes = layout s c.judge_sections-layout.ensures c.passes.ensures c.if-not-passes.false in
-    let levels_are = levels s c.levels.ensures c.right.ensures in
-    let names_are = names s c.fields-fields.ensures c.names_right.ensures in
-    let nodes_are = nodes s c.fields-fields.ensures c.constants-constants.ensures c.nodes-nodes.ensures c.judge_nodes-faults.ensures.0 in
     let faultless = sym c.passes-2.ensures ∙ c.if-not-passes-2.false in
-    let passed : NodesPass s = record { layout = layout_passes; levels = levels_are ∙ c.if-not-right.false; names = names_are ∙ c.if-not-names_right.false; nodes = sym nodes_are ∙ passes-is _ faultless } in
+    let passed = nodes_pass s c.judge_sections-layout.ensures c.passes.ensures c.if-not-passes.false c.levels.ensures c.right.ensures c.if-not-right.false
+    c.fields-fields.ensures c.names_right.ensures c.if-not-names_right.false c.constants-constants.ensures c.nodes-nodes.ensures
+    c.judge_nodes-faults.ensures.0 c.passes-2.ensures c.if-not-passes-2.false in
     let once = sym (c.all_once.ensures ∙ all-counted (c.judge_nodes-faults.ensures.1 faultless) ∙ ap used_once c.nodes-nodes.ensures) in
     let kind_is = rw c.nodes-nodes.ensures at c.kind_of.ensures in
     let command = rw kind_is at c.if-kind_of-le4.false in
@@ -173,12 +166,10 @@ returns-then-fits c =
 pub returns-else-fits : goal.returns-else-fits
 returns-else-fits c =
     let s = c.args.sheet.now in
-    let layout_passes = layout s c.judge_sections-layout.ensures c.passes.ensures c.if-not-passes.false in
-    let levels_are = levels s c.levels.ensures c.right.ensures in
-    let names_are = names s c.fields-fields.ensures c.names_right.ensures in
-    let nodes_are = nodes s c.fields-fields.ensures c.constants-constants.ensures c.nodes-nodes.ensures c.judge_nodes-faults.ensures.0 in
     let faultless = sym c.passes-2.ensures ∙ c.if-not-passes-2.false in
-    let passed : NodesPass s = record { layout = layout_passes; levels = levels_are ∙ c.if-not-right.false; names = names_are ∙ c.if-not-names_right.false; nodes = sym nodes_are ∙ passes-is _ faultless } in
+    let passed = nodes_pass s c.judge_sections-layout.ensures c.passes.ensures c.if-not-passes.false c.levels.ensures c.right.ensures c.if-not-right.false
+    c.fields-fields.ensures c.names_right.ensures c.if-not-names_right.false c.constants-constants.ensures c.nodes-nodes.ensures
+    c.judge_nodes-faults.ensures.0 c.passes-2.ensures c.if-not-passes-2.false in
     let once = sym (c.all_once.ensures ∙ all-counted (c.judge_nodes-faults.ensures.1 faultless) ∙ ap used_once c.nodes-nodes.ensures) in
     let kind_is = rw c.nodes-nodes.ensures at c.kind_of.ensures in
     let command = rw kind_is at c.if-kind_of-le4.false in

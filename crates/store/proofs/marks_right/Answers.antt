@@ -10,10 +10,14 @@ loop-i-init c = all_none _
 
 pub returns-then-not-mark_taken : goal.returns-then-not-mark_taken
 unfolding marks_right
-returns-then-not-mark_taken c = sym (all-fails _ _ _ c.loop-i-test.true ((let a = c.args in sym (c.mark_taken.ensures ∙ ap (mark_taken (mode_of a.mode) a.levels) c.mark_at.ensures.0)) ∙ c.if-not-mark_taken.true))
+returns-then-not-mark_taken c =
+    let taken_is = sym (c.mark_taken.ensures ∙ ap (mark_taken (mode_of c.args.mode) c.args.levels) c.mark_at.ensures.0) in
+    sym (all-fails _ _ _ c.loop-i-test.true (taken_is ∙ c.if-not-mark_taken.true))
 
 pub loop-i-preserved : goal.loop-i-preserved
-loop-i-preserved c = all_more _ _ c.loop-i.invariant ((let a = c.args in sym (c.mark_taken.ensures ∙ ap (mark_taken (mode_of a.mode) a.levels) c.mark_at.ensures.0)) ∙ c.if-not-mark_taken.false)
+loop-i-preserved c =
+    let taken_is = sym (c.mark_taken.ensures ∙ ap (mark_taken (mode_of c.args.mode) c.args.levels) c.mark_at.ensures.0) in
+    all_more _ _ c.loop-i.invariant (taken_is ∙ c.if-not-mark_taken.false)
 
 pub returns : goal.returns
 unfolding marks_right

@@ -2,7 +2,7 @@
 use borrow.Author.Tests.{le-leb, lt-leb}
 use Prim.Native.Nat.{ℕ, ◌/◌}
 use native.Mathlib.Omega.{arith}
-use mathlib.Core.Path.{sym, ap, ap₂, ◌∙◌}
+use mathlib.Core.Path.{◌≡◌, sym, ap, ap₂, ◌∙◌}
 use mathlib.Core.Bool.{Bool, ◌&&◌}
 use mathlib.Core.List.{List}
 use lib.Dec.{ltb}
@@ -11,6 +11,8 @@ use Rattle.basis.specs.Numbers as numbers
 use Rattle.basis.specs.Answer.{refusal}
 use Rattle.basis.specs.Checks.{tells}
 use Rattle.levels.specs.Levels.{count}
+use Rattle.sections.specs.Sections.{levels_of, fields_of}
+use Rattle.sheet.specs.Load.{field_count}
 use Rattle.handout.specs.Requests.{asked_count, request_right}
 use Rattle.handout.specs.Answers.{answer_length}
 use Rattle.handout.proofs.Requesting.{right_has}
@@ -19,19 +21,23 @@ use Rattle.beltuqash.specs.Calls.{refused_position}
 use Rattle.beltuqash.proofs.Checking.{requested, asks_as}
 use Rattle.beltuqash.proofs.checks.judge_request.Goals as goal
 
+-- reader and request, as the definition tests them and as the code does
+asked_as : (sheet request : List ℕ) (reader : ℕ) {rows fields : List ℕ} {r : Bool} → rows ≡ levels_of sheet → fields ≡ fields_of sheet → r ≡ request_right (length fields / 8) request
+    → (ltb reader (count (levels_of sheet)) && request_right (field_count sheet) request) ≡ (ltb reader (count rows) && r)
+asked_as sheet request reader rows fields right =
+    ap₂ (λ (rows : List ℕ) (b : Bool). ltb reader (count rows) && b) (sym rows) (sym (right ∙ ap (λ (l : List ℕ). request_right (length l / 8) request) fields))
+
 pub returns-then-not-known-right : goal.returns-then-not-known-right
 unfolding tells
 returns-then-not-known-right c =
     let a = c.args in
-    let asked_is = ap₂ (λ (rows : List ℕ) (b : Bool). ltb a.reader (count rows) && b) (sym c.levels-rows.ensures) (sym (c.right.ensures ∙ ap (λ (l : List ℕ). request_right (length l / 8) a.request.now) c.fields.ensures)) in
-    rw (asked_is ∙ c.if-not-known-right.true) c.refusal.ensures
+    rw (asked_as a.sheet.now a.request.now a.reader c.levels-rows.ensures c.fields.ensures c.right.ensures ∙ c.if-not-known-right.true) c.refusal.ensures
 
 pub length-requires : goal.length-requires
 unfolding mode_of
 length-requires c =
     let a = c.args in
-    let asked_is = ap₂ (λ (rows : List ℕ) (b : Bool). ltb a.reader (count rows) && b) (sym c.levels-rows.ensures) (sym (c.right.ensures ∙ ap (λ (l : List ℕ). request_right (length l / 8) a.request.now) c.fields.ensures)) in
-    let asked = asked_is ∙ c.if-not-known-right.false in
+    let asked = asked_as a.sheet.now a.request.now a.reader c.levels-rows.ensures c.fields.ensures c.right.ensures ∙ c.if-not-known-right.false in
     let given = requested _ _ _ _ c.requires asked in
     omega (arith, (right_has _ _ given.right_request).size)
 
@@ -39,8 +45,7 @@ pub returns-then-room-length : goal.returns-then-room-length
 unfolding tells
 returns-then-room-length c =
     let a = c.args in
-    let asked_is = ap₂ (λ (rows : List ℕ) (b : Bool). ltb a.reader (count rows) && b) (sym c.levels-rows.ensures) (sym (c.right.ensures ∙ ap (λ (l : List ℕ). request_right (length l / 8) a.request.now) c.fields.ensures)) in
-    let asked = asked_is ∙ c.if-not-known-right.false in
+    let asked = asked_as a.sheet.now a.request.now a.reader c.levels-rows.ensures c.fields.ensures c.right.ensures ∙ c.if-not-known-right.false in
     let short = lt-leb (answer_length a.request.now) a.room (omega (arith, c.if-room-length.true, c.length.ensures)) in
     rw (asked, short) c.refusal-then-room-length.ensures
 
@@ -48,8 +53,7 @@ pub first_refusing-first-requires : goal.first_refusing-first-requires
 unfolding mode_of
 first_refusing-first-requires c =
     let a = c.args in
-    let asked_is = ap₂ (λ (rows : List ℕ) (b : Bool). ltb a.reader (count rows) && b) (sym c.levels-rows.ensures) (sym (c.right.ensures ∙ ap (λ (l : List ℕ). request_right (length l / 8) a.request.now) c.fields.ensures)) in
-    let asked = asked_is ∙ c.if-not-known-right.false in
+    let asked = asked_as a.sheet.now a.request.now a.reader c.levels-rows.ensures c.fields.ensures c.right.ensures ∙ c.if-not-known-right.false in
     let given = requested _ _ _ _ c.requires asked in
     rw c.levels-rows.ensures (asks_as given)
 
@@ -57,8 +61,7 @@ pub count-requires : goal.count-requires
 unfolding mode_of
 count-requires c =
     let a = c.args in
-    let asked_is = ap₂ (λ (rows : List ℕ) (b : Bool). ltb a.reader (count rows) && b) (sym c.levels-rows.ensures) (sym (c.right.ensures ∙ ap (λ (l : List ℕ). request_right (length l / 8) a.request.now) c.fields.ensures)) in
-    let asked = asked_is ∙ c.if-not-known-right.false in
+    let asked = asked_as a.sheet.now a.request.now a.reader c.levels-rows.ensures c.fields.ensures c.right.ensures ∙ c.if-not-known-right.false in
     let given = requested _ _ _ _ c.requires asked in
     omega (arith, (right_has _ _ given.right_request).size)
 
@@ -66,8 +69,7 @@ pub returns : goal.returns
 unfolding tells
 returns c =
     let a = c.args in
-    let asked_is = ap₂ (λ (rows : List ℕ) (b : Bool). ltb a.reader (count rows) && b) (sym c.levels-rows.ensures) (sym (c.right.ensures ∙ ap (λ (l : List ℕ). request_right (length l / 8) a.request.now) c.fields.ensures)) in
-    let asked = asked_is ∙ c.if-not-known-right.false in
+    let asked = asked_as a.sheet.now a.request.now a.reader c.levels-rows.ensures c.fields.ensures c.right.ensures ∙ c.if-not-known-right.false in
     let room = le-leb (answer_length a.request.now) a.room (omega (arith, c.if-room-length.false, c.length.ensures)) in
     let position = refused_position a.sheet.now a.store.now a.reader a.request.now in
     let first_is = rw c.levels-rows.ensures at c.first_refusing-first.ensures in
@@ -78,8 +80,7 @@ pub returns-then-first-count : goal.returns-then-first-count
 unfolding tells
 returns-then-first-count c =
     let a = c.args in
-    let asked_is = ap₂ (λ (rows : List ℕ) (b : Bool). ltb a.reader (count rows) && b) (sym c.levels-rows.ensures) (sym (c.right.ensures ∙ ap (λ (l : List ℕ). request_right (length l / 8) a.request.now) c.fields.ensures)) in
-    let asked = asked_is ∙ c.if-not-known-right.false in
+    let asked = asked_as a.sheet.now a.request.now a.reader c.levels-rows.ensures c.fields.ensures c.right.ensures ∙ c.if-not-known-right.false in
     let room = le-leb (answer_length a.request.now) a.room (omega (arith, c.if-room-length.false, c.length.ensures)) in
     let position = refused_position a.sheet.now a.store.now a.reader a.request.now in
     let first_is = rw c.levels-rows.ensures at c.first_refusing-first.ensures in

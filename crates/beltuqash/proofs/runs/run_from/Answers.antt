@@ -1,36 +1,39 @@
 -- The parts are the sheet's sections, the work store reads as the store, and the word of the run says which return is right.
 use Prim.Native.Nat.{ℕ, ◌/◌}
 use native.Mathlib.Omega.{arith}
-use mathlib.Core.Path.{refl, sym, ap, ◌∙◌}
+use mathlib.Core.Path.{◌≡◌, refl, sym, ap, ◌∙◌}
 use mathlib.Core.List.{List, [], ◌∷◌}
 use lib.ListN.{length}
+use Rattle.sections.specs.Sections.{levels_of, constants_of, nodes_of}
+use Rattle.store.specs.Marks.{mark_of}
+use Rattle.store.specs.Stores.{store_of}
+use Rattle.marks.specs.Inside.Words.{work_of}
+use Rattle.marks.specs.Inside.Meanings.{First}
 use Rattle.sheet.specs.Load.{last_of}
 use Rattle.flow.specs.Inside.Tasks.{CmdIn, Ran}
 use Rattle.basis.specs.Answer.{Outcome}
 use Rattle.beltuqash.specs.Calls.{ended}
 use Rattle.beltuqash.proofs.Checking.{few-fields, nodes-long, fits-long}
 use Rattle.beltuqash.proofs.Running.{moved, stop_out, task_in, Done, left-done, runs_done, marks-few, left-stopped, runs-stopped}
--- what came in
 use Rattle.beltuqash.proofs.runs.run_from.Goals as goal
+
+-- what the parts did is what the sheet's sections do
+done_so : (sheet store : List ℕ) (mode fuel : ℕ) {rows constants nodes work after : List ℕ} {task word : ℕ} → rows ≡ levels_of sheet → constants ≡ constants_of sheet
+    → nodes ≡ nodes_of sheet → work_of mark_of work ≡ store_of store → First rows mode task → Ran (rows ∷ constants ∷ nodes ∷ []) work (last_of nodes) task fuel after word
+    → Done sheet store mode work task fuel after word
+done_so sheet store mode fuel {work} {after} {task} {word} r c n same first ran =
+    record {
+      same = same;
+      first = rw r at first;
+      ran = moved (λ rows constants nodes. Ran (rows ∷ constants ∷ nodes ∷ []) work (last_of nodes) task fuel after word) r c n ran;
+    }
 
 pub returns : goal.returns
 unfolding ended
 returns c =
-    let a = c.args in
-    let rows_are = c.levels-rows.ensures in
-    let nodes_are = c.nodes-nodes.ensures in
-    let constants_are = c.constants.ensures in
-    let first = rw c.levels-rows.ensures at c.first_task-task.ensures in
-    let done : Done a.sheet.now a.store.now a.mode c.fetch.new.work c.first_task-task.result a.fuel c.run-word.new.work c.run-word.result =
-    record {
-      same = c.fetch.ensures.is;
-      first = first;
-      ran =
-          moved (λ rows constants nodes. Ran (rows ∷ constants ∷ nodes ∷ []) c.fetch.new.work (last_of nodes) c.first_task-task.result a.fuel c.run-word.new.work c.run-word.result)
-          rows_are constants_are nodes_are c.run-word.ensures;
-    } in
+    let done = done_so _ _ _ _ c.levels-rows.ensures c.constants.ensures c.nodes-nodes.ensures c.fetch.ensures.is c.first_task-task.ensures c.run-word.ensures in
     let count_is = ap (λ (l : List ℕ). length l / 8) c.fields.ensures in
-    let is = runs_done done c.if-word-ge-STOP.false a.out.now in (
+    let is = runs_done done c.if-word-ge-STOP.false c.args.out.now in (
       rw c.left_in.ensures at c.success.ensures ∙ ap (λ (x : Outcome). x.answer) (sym is),
       rw count_is at c.deliver.ensures ∙ ap (λ (x : Outcome). x.out) (sym is),
     )
@@ -48,79 +51,28 @@ overflow_sub-nodes c = omega (arith, ap length c.nodes-nodes.ensures, (nodes-lon
 
 pub run-word-requires : goal.run-word-requires
 run-word-requires c =
-    let rows_are = c.levels-rows.ensures in
-    let nodes_are = c.nodes-nodes.ensures in
-    let constants_are = c.constants.ensures in
-    let first = rw c.levels-rows.ensures at c.first_task-task.ensures in
     moved (λ rows constants nodes. CmdIn (rows ∷ constants ∷ nodes ∷ []) c.fetch.new.work (last_of nodes) c.first_task-task.result)
-    (sym rows_are) (sym constants_are) (sym nodes_are) (task_in c.requires c.fetch.ensures first)
+    (sym c.levels-rows.ensures) (sym c.constants.ensures) (sym c.nodes-nodes.ensures)
+    (task_in c.requires c.fetch.ensures (rw c.levels-rows.ensures at c.first_task-task.ensures))
 
 pub stopped-requires : goal.stopped-requires
 stopped-requires c =
-    let a = c.args in
-    let rows_are = c.levels-rows.ensures in
-    let nodes_are = c.nodes-nodes.ensures in
-    let constants_are = c.constants.ensures in
-    let first = rw c.levels-rows.ensures at c.first_task-task.ensures in
-    let done : Done a.sheet.now a.store.now a.mode c.fetch.new.work c.first_task-task.result a.fuel c.run-word.new.work c.run-word.result =
-    record {
-      same = c.fetch.ensures.is;
-      first = first;
-      ran =
-          moved (λ rows constants nodes. Ran (rows ∷ constants ∷ nodes ∷ []) c.fetch.new.work (last_of nodes) c.first_task-task.result a.fuel c.run-word.new.work c.run-word.result)
-          rows_are constants_are nodes_are c.run-word.ensures;
-    } in
+    let done = done_so _ _ _ _ c.levels-rows.ensures c.constants.ensures c.nodes-nodes.ensures c.fetch.ensures.is c.first_task-task.ensures c.run-word.ensures in
     (done.ran.told c.if-word-ge-STOP.true, left-stopped done c.if-word-ge-STOP.true)
 
 pub returns-then-word-ge-STOP : goal.returns-then-word-ge-STOP
 returns-then-word-ge-STOP c =
-    let a = c.args in
-    let rows_are = c.levels-rows.ensures in
-    let nodes_are = c.nodes-nodes.ensures in
-    let constants_are = c.constants.ensures in
-    let first = rw c.levels-rows.ensures at c.first_task-task.ensures in
-    let done : Done a.sheet.now a.store.now a.mode c.fetch.new.work c.first_task-task.result a.fuel c.run-word.new.work c.run-word.result =
-    record {
-      same = c.fetch.ensures.is;
-      first = first;
-      ran =
-          moved (λ rows constants nodes. Ran (rows ∷ constants ∷ nodes ∷ []) c.fetch.new.work (last_of nodes) c.first_task-task.result a.fuel c.run-word.new.work c.run-word.result)
-          rows_are constants_are nodes_are c.run-word.ensures;
-    } in
-    let is = runs-stopped done c.if-word-ge-STOP.true a.out.now in
+    let done = done_so _ _ _ _ c.levels-rows.ensures c.constants.ensures c.nodes-nodes.ensures c.fetch.ensures.is c.first_task-task.ensures c.run-word.ensures in
+    let is = runs-stopped done c.if-word-ge-STOP.true c.args.out.now in
     (c.stopped.ensures _ _ ∙ ap (λ (x : Outcome). x.answer) (sym is), sym (ap (λ (x : Outcome). x.out) is ∙ stop_out _ _ (done.ran.told c.if-word-ge-STOP.true) _ _))
 
 pub deliver-requires : goal.deliver-requires
 deliver-requires c =
-    let a = c.args in
-    let rows_are = c.levels-rows.ensures in
-    let nodes_are = c.nodes-nodes.ensures in
-    let constants_are = c.constants.ensures in
-    let first = rw c.levels-rows.ensures at c.first_task-task.ensures in
-    let done : Done a.sheet.now a.store.now a.mode c.fetch.new.work c.first_task-task.result a.fuel c.run-word.new.work c.run-word.result =
-    record {
-      same = c.fetch.ensures.is;
-      first = first;
-      ran =
-          moved (λ rows constants nodes. Ran (rows ∷ constants ∷ nodes ∷ []) c.fetch.new.work (last_of nodes) c.first_task-task.result a.fuel c.run-word.new.work c.run-word.result)
-          rows_are constants_are nodes_are c.run-word.ensures;
-    } in
+    let done = done_so _ _ _ _ c.levels-rows.ensures c.constants.ensures c.nodes-nodes.ensures c.fetch.ensures.is c.first_task-task.ensures c.run-word.ensures in
     let count_is = ap (λ (l : List ℕ). length l / 8) c.fields.ensures in
     rw count_is (few-fields _ c.requires.taken.loaded, c.requires.room-is, marks-few done)
 
 pub overflow_sub-fuel : goal.overflow_sub-fuel
 overflow_sub-fuel c =
-    let a = c.args in
-    let rows_are = c.levels-rows.ensures in
-    let nodes_are = c.nodes-nodes.ensures in
-    let constants_are = c.constants.ensures in
-    let first = rw c.levels-rows.ensures at c.first_task-task.ensures in
-    let done : Done a.sheet.now a.store.now a.mode c.fetch.new.work c.first_task-task.result a.fuel c.run-word.new.work c.run-word.result =
-    record {
-      same = c.fetch.ensures.is;
-      first = first;
-      ran =
-          moved (λ rows constants nodes. Ran (rows ∷ constants ∷ nodes ∷ []) c.fetch.new.work (last_of nodes) c.first_task-task.result a.fuel c.run-word.new.work c.run-word.result)
-          rows_are constants_are nodes_are c.run-word.ensures;
-    } in
+    let done = done_so _ _ _ _ c.levels-rows.ensures c.constants.ensures c.nodes-nodes.ensures c.fetch.ensures.is c.first_task-task.ensures c.run-word.ensures in
     omega (arith, c.left_in.ensures, left-done done c.if-word-ge-STOP.false)

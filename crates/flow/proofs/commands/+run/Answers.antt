@@ -1,15 +1,28 @@
 -- Each call, each return and each turn, by what the command at the node is.
-use Prim.Native.Nat.{suc, ◌-◌, ◌≤◌}
+use Prim.Native.Nat.{ℕ, suc, ◌-◌, ◌≤◌}
 use native.Mathlib.Omega.{arith}
-use mathlib.Core.List.{map}
+use mathlib.Core.List.{List}
 use mathlib.Core.Path.{◌≡◌, refl, sym, ap, ◌∙◌}
 use Rattle.value.specs.Values.{is_true}
 use Rattle.nodes.specs.Nodes.{kind_at}
 use Rattle.marks.specs.Inside.Parts.{nodes_in}
+use Rattle.flow.specs.Inside.Tasks.{CmdIn}
 use Rattle.flow.proofs.Ends.{bit-few}
 use Rattle.flow.proofs.Running.{starts, child, fuel-left, node-few, turn_below, first_stops, second_next, run-spent, at_last}
 use Rattle.flow.proofs.Running.{test_stops, side_below, side_next, while-done, body_below, context-known, round_stops, round_next}
 use Rattle.flow.proofs.commands.+run.Goals as goal
+
+-- a unit is spent
+spent : {left : ℕ} → (left ≡ 0 → ⊥) → left ≡ suc (left - 1)
+spent some = omega arith
+
+-- past a sequence, a skip and an assignment there is a test; past an if there is a while
+a_test : {kind got : ℕ} → got ≡ kind → (got ≡ 7 → ⊥) → 7 ≤ got → 8 ≤ kind
+a_test is sequence single = omega arith
+
+a_while : {parts : List (List ℕ)} {work : List ℕ} {n task got : ℕ} → CmdIn parts work n task → got ≡ kind_at (nodes_in parts) n → 8 ≤ kind_at (nodes_in parts) n → (got ≡ 8 → ⊥)
+    → kind_at (nodes_in parts) n ≡ 9
+a_while command is test if = omega (arith, command.ready.formed.kind _ command.inside)
 
 pub loop-work-init : goal.loop-work-init
 loop-work-init t c = starts _ _ _ _ _ c.requires (omega arith)
@@ -65,20 +78,20 @@ single-requires t c =
 
 pub returns-then-kind-lt7 : goal.returns-then-kind-lt7
 returns-then-kind-lt7 t c =
-    let unit : c.loop-work.left ≡ suc (c.loop-work.left - 1) = omega (arith, c.if-left-eq0.false) in
+    let unit = spent c.if-left-eq0.false in
     at_last _ _ _ _ _ c.loop-work.invariant unit c.single.ensures
 
 -- ── a test ──────────────────────────────────────────────────────────────────────────────────
 
 pub test-got-requires : goal.test-got-requires
 test-got-requires t c =
-    let test : 8 ≤ kind_at (nodes_in (map (λ x. x.now) c.args.parts.now)) c.loop-work.n = omega (arith, c.kind_in-kind.ensures, c.if-kind-eq7.false, c.if-kind-lt7.false) in
+    let test = a_test c.kind_in-kind.ensures c.if-kind-eq7.false c.if-kind-lt7.false in
     (c.loop-work.invariant.command, test)
 
 pub returns-then-got-ge-STOP : goal.returns-then-got-ge-STOP
 returns-then-got-ge-STOP t c =
-    let unit : c.loop-work.left ≡ suc (c.loop-work.left - 1) = omega (arith, c.if-left-eq0.false) in
-    let test : 8 ≤ kind_at (nodes_in (map (λ x. x.now) c.args.parts.now)) c.loop-work.n = omega (arith, c.kind_in-kind.ensures, c.if-kind-eq7.false, c.if-kind-lt7.false) in
+    let unit = spent c.if-left-eq0.false in
+    let test = a_test c.kind_in-kind.ensures c.if-kind-eq7.false c.if-kind-lt7.false in
     test_stops _ _ _ _ _ c.loop-work.invariant unit c.test-got.ensures test c.if-got-ge-STOP.true c.with_left.ensures
 
 pub overflow_sub-holds : goal.overflow_sub-holds
@@ -89,7 +102,7 @@ slot_in-n-requires-then-kind-eq8 t c = (c.loop-work.invariant.command.inside, om
 
 pub loop-work-smaller-then-kind-eq8 : goal.loop-work-smaller-then-kind-eq8
 loop-work-smaller-then-kind-eq8 t c =
-    let unit : c.loop-work.left ≡ suc (c.loop-work.left - 1) = omega (arith, c.if-left-eq0.false) in
+    let unit = spent c.if-left-eq0.false in
     let eight = sym c.kind_in-kind.ensures ∙ c.if-kind-eq8.true in
     let g = c.loop-work.invariant in
     let below = side_below _ _ _ _ _ g unit c.test-got.ensures c.if-got-ge-STOP.false eight c.is_true-holds.result in
@@ -97,7 +110,7 @@ loop-work-smaller-then-kind-eq8 t c =
 
 pub loop-work-preserved-then-kind-eq8 : goal.loop-work-preserved-then-kind-eq8
 loop-work-preserved-then-kind-eq8 t c =
-    let unit : c.loop-work.left ≡ suc (c.loop-work.left - 1) = omega (arith, c.if-left-eq0.false) in
+    let unit = spent c.if-left-eq0.false in
     let eight = sym c.kind_in-kind.ensures ∙ c.if-kind-eq8.true in
     let holds = sym (c.is_true-holds.ensures ∙ ap is_true c.value_in.ensures) in
     let joined = rw c.mark_in.ensures at c.in_context-task.ensures in
@@ -109,11 +122,9 @@ loop-work-preserved-then-kind-eq8 t c =
 
 pub returns-then-round-ge-STOP : goal.returns-then-round-ge-STOP
 returns-then-round-ge-STOP t c =
-    let unit : c.loop-work.left ≡ suc (c.loop-work.left - 1) = omega (arith, c.if-left-eq0.false) in
-    let test : 8 ≤ kind_at (nodes_in (map (λ x. x.now) c.args.parts.now)) c.loop-work.n = omega (arith, c.kind_in-kind.ensures, c.if-kind-eq7.false, c.if-kind-lt7.false) in
-    let command = c.loop-work.invariant.command in
-    let most = command.ready.formed.kind _ command.inside in
-    let nine : kind_at (nodes_in (map (λ x. x.now) c.args.parts.now)) c.loop-work.n ≡ 9 = omega (arith, c.kind_in-kind.ensures, test, c.if-kind-eq8.false) in
+    let unit = spent c.if-left-eq0.false in
+    let test = a_test c.kind_in-kind.ensures c.if-kind-eq7.false c.if-kind-lt7.false in
+    let nine = a_while c.loop-work.invariant.command c.kind_in-kind.ensures test c.if-kind-eq8.false in
     let holds = sym (c.is_true-holds.ensures ∙ ap is_true c.value_in.ensures) in
     let joined = rw c.mark_in.ensures at c.in_context-task.ensures in
     round_stops _ _ _ _ _ c.loop-work.invariant unit c.test-got.ensures c.if-got-ge-STOP.false nine
@@ -121,16 +132,14 @@ returns-then-round-ge-STOP t c =
 
 pub loop-work-smaller : goal.loop-work-smaller
 loop-work-smaller t c =
-    let unit : c.loop-work.left ≡ suc (c.loop-work.left - 1) = omega (arith, c.if-left-eq0.false) in
+    let unit = spent c.if-left-eq0.false in
     omega (arith, unit, c.left_in-left-then-holds.ensures, fuel-left c.run-round.ensures c.if-round-ge-STOP.false)
 
 pub loop-work-preserved : goal.loop-work-preserved
 loop-work-preserved t c =
-    let unit : c.loop-work.left ≡ suc (c.loop-work.left - 1) = omega (arith, c.if-left-eq0.false) in
-    let test : 8 ≤ kind_at (nodes_in (map (λ x. x.now) c.args.parts.now)) c.loop-work.n = omega (arith, c.kind_in-kind.ensures, c.if-kind-eq7.false, c.if-kind-lt7.false) in
-    let command = c.loop-work.invariant.command in
-    let most = command.ready.formed.kind _ command.inside in
-    let nine : kind_at (nodes_in (map (λ x. x.now) c.args.parts.now)) c.loop-work.n ≡ 9 = omega (arith, c.kind_in-kind.ensures, test, c.if-kind-eq8.false) in
+    let unit = spent c.if-left-eq0.false in
+    let test = a_test c.kind_in-kind.ensures c.if-kind-eq7.false c.if-kind-lt7.false in
+    let nine = a_while c.loop-work.invariant.command c.kind_in-kind.ensures test c.if-kind-eq8.false in
     let holds = sym (c.is_true-holds.ensures ∙ ap is_true c.value_in.ensures) in
     let joined = rw c.mark_in.ensures at c.in_context-task.ensures in
     rw c.left_in-left-then-holds.ensures
@@ -139,11 +148,9 @@ loop-work-preserved t c =
 
 pub returns-else-holds : goal.returns-else-holds
 returns-else-holds t c =
-    let unit : c.loop-work.left ≡ suc (c.loop-work.left - 1) = omega (arith, c.if-left-eq0.false) in
-    let test : 8 ≤ kind_at (nodes_in (map (λ x. x.now) c.args.parts.now)) c.loop-work.n = omega (arith, c.kind_in-kind.ensures, c.if-kind-eq7.false, c.if-kind-lt7.false) in
-    let command = c.loop-work.invariant.command in
-    let most = command.ready.formed.kind _ command.inside in
-    let nine : kind_at (nodes_in (map (λ x. x.now) c.args.parts.now)) c.loop-work.n ≡ 9 = omega (arith, c.kind_in-kind.ensures, test, c.if-kind-eq8.false) in
+    let unit = spent c.if-left-eq0.false in
+    let test = a_test c.kind_in-kind.ensures c.if-kind-eq7.false c.if-kind-lt7.false in
+    let nine = a_while c.loop-work.invariant.command c.kind_in-kind.ensures test c.if-kind-eq8.false in
     let holds = sym (c.is_true-holds.ensures ∙ ap is_true c.value_in.ensures) in
     while-done _ _ _ _ _ c.loop-work.invariant unit c.test-got.ensures c.if-got-ge-STOP.false nine
     (holds ∙ c.if-holds.false)
@@ -153,11 +160,9 @@ slot_in-requires-then-holds t c = (c.loop-work.invariant.command.inside, omega a
 
 pub run-round-requires : goal.run-round-requires
 run-round-requires t c =
-    let unit : c.loop-work.left ≡ suc (c.loop-work.left - 1) = omega (arith, c.if-left-eq0.false) in
-    let test : 8 ≤ kind_at (nodes_in (map (λ x. x.now) c.args.parts.now)) c.loop-work.n = omega (arith, c.kind_in-kind.ensures, c.if-kind-eq7.false, c.if-kind-lt7.false) in
-    let command = c.loop-work.invariant.command in
-    let most = command.ready.formed.kind _ command.inside in
-    let nine : kind_at (nodes_in (map (λ x. x.now) c.args.parts.now)) c.loop-work.n ≡ 9 = omega (arith, c.kind_in-kind.ensures, test, c.if-kind-eq8.false) in
+    let unit = spent c.if-left-eq0.false in
+    let test = a_test c.kind_in-kind.ensures c.if-kind-eq7.false c.if-kind-lt7.false in
+    let nine = a_while c.loop-work.invariant.command c.kind_in-kind.ensures test c.if-kind-eq8.false in
     let g = c.loop-work.invariant in
     let lower = g.lower in
     let below = body_below _ _ _ _ _ g unit c.test-got.ensures c.if-got-ge-STOP.false nine in

@@ -1,4 +1,4 @@
--- what the expression gave, and the context after the test
+-- What the expression gave, and the context after the test.
 use native.Mathlib.Omega.{arith}
 use Rattle.flow.proofs.Testing.{expression_stops, test_refused, goes_on, test_in}
 use Rattle.flow.proofs.commands.test.Goals as goal
@@ -7,27 +7,37 @@ pub expression-x-requires : goal.expression-x-requires
 expression-x-requires c = rw (c.slot_in.ensures.0, c.run_in.ensures) (test_in c.requires.0 c.requires.1)
 
 pub returns-then-x-ge-STOP : goal.returns-then-x-ge-STOP
-returns-then-x-ge-STOP c = expression_stops _ _ _ _ _ ((rw (c.slot_in.ensures.0, c.run_in.ensures) at c.expression-x.ensures)) c.if-x-ge-STOP.true
+returns-then-x-ge-STOP c =
+    let gave = rw (c.slot_in.ensures.0, c.run_in.ensures) at c.expression-x.ensures in
+    expression_stops _ _ _ _ _ gave c.if-x-ge-STOP.true
 
 pub enter-context-requires : goal.enter-context-requires
 enter-context-requires c =
     let p = c.requires.0 in
     let few = p.ready.few-nodes in
     let inside = p.inside in
+    let gave = rw (c.slot_in.ensures.0, c.run_in.ensures) at c.expression-x.ensures in
     record {
       askable = p.ready.askable;
       context-known = p.context;
-      seen = rw c.mark_in.ensures (((rw (c.slot_in.ensures.0, c.run_in.ensures) at c.expression-x.ensures)).known c.if-x-ge-STOP.false);
+      seen = rw c.mark_in.ensures (gave.known c.if-x-ge-STOP.false);
       few = omega arith;
     }
 
 pub returns-then-context-ge-STOP : goal.returns-then-context-ge-STOP
-returns-then-context-ge-STOP c = test_refused _ _ _ _ _ ((rw (c.slot_in.ensures.0, c.run_in.ensures) at c.expression-x.ensures)) c.if-x-ge-STOP.false ((rw c.mark_in.ensures at c.enter-context.ensures)) c.if-context-ge-STOP.true
+returns-then-context-ge-STOP c =
+    let gave = rw (c.slot_in.ensures.0, c.run_in.ensures) at c.expression-x.ensures in
+    let entered = rw c.mark_in.ensures at c.enter-context.ensures in
+    test_refused _ _ _ _ _ gave c.if-x-ge-STOP.false entered c.if-context-ge-STOP.true
 
 pub overflow_cast-context : goal.overflow_cast-context
 overflow_cast-context c =
-    let few = (((rw c.mark_in.ensures at c.enter-context.ensures)).known c.if-context-ge-STOP.false).1 in
+    let entered = rw c.mark_in.ensures at c.enter-context.ensures in
+    let few = (entered.known c.if-context-ge-STOP.false).1 in
     omega arith
 
 pub returns : goal.returns
-returns c = goes_on _ _ _ _ _ ((rw (c.slot_in.ensures.0, c.run_in.ensures) at c.expression-x.ensures)) c.if-x-ge-STOP.false ((rw c.mark_in.ensures at c.enter-context.ensures)) c.if-context-ge-STOP.false (rw c.value_in.ensures at c.word.ensures)
+returns c =
+    let gave = rw (c.slot_in.ensures.0, c.run_in.ensures) at c.expression-x.ensures in
+    let entered = rw c.mark_in.ensures at c.enter-context.ensures in
+    goes_on _ _ _ _ _ gave c.if-x-ge-STOP.false entered c.if-context-ge-STOP.false (rw c.value_in.ensures at c.word.ensures)

@@ -1,34 +1,38 @@
--- the node's kind, past the test that leads to each place
+-- A field has its word's value and mark, a constant its own.
+use Prim.Native.Nat.{ℕ, ◌<◌}
 use native.Mathlib.Omega.{arith}
-use mathlib.Core.Path.{sym, ◌∙◌}
+use mathlib.Core.Path.{◌≡◌, sym, ◌∙◌}
 use Rattle.nodes.specs.Nodes.{kinds, held_in}
 use Rattle.sheet.proofs.Trees.{held_there}
 use Rattle.flow.proofs.Expressions.{held_field, constant_word, field_word}
 use Rattle.flow.proofs.eval.leaf.Goals as goal
 
+-- a leaf that is no field is a constant
+no_field : {kind got : ℕ} → got ≡ kind → kind < 2 → (got ≡ 1 → ⊥) → kind ≡ 0
+no_field is leaf field = omega arith
+
 pub bounds-work-a : goal.bounds-work-a
 bounds-work-a c =
     let p = c.requires.0 in
     let few = p.ready.few-fields in
-    omega (arith, c.slot_in-a.ensures.0, held_field p.ready.formed _ p.inside ((sym c.kind_in.ensures ∙ c.if-kind_in-eq1.true)))
+    omega (arith, c.slot_in-a.ensures.0, held_field p.ready.formed _ p.inside (sym c.kind_in.ensures ∙ c.if-kind_in-eq1.true))
 
 pub read-requires : goal.read-requires
 read-requires c = rw c.mark_in.ensures (c.requires.0.ready.words _)
 
 pub returns-then-kind_in-eq1 : goal.returns-then-kind_in-eq1
-returns-then-kind_in-eq1 c = field_word c.requires.0 ((sym c.kind_in.ensures ∙ c.if-kind_in-eq1.true)) c.slot_in-a.ensures.0 c.value_in.ensures c.mark_in.ensures c.read.ensures c.word.ensures
+returns-then-kind_in-eq1 c =
+    field_word c.requires.0 (sym c.kind_in.ensures ∙ c.if-kind_in-eq1.true) c.slot_in-a.ensures.0 c.value_in.ensures c.mark_in.ensures c.read.ensures c.word.ensures
 
 pub constant_in-requires : goal.constant_in-requires
 unfolding held_in kinds
 constant_in-requires c =
     let p = c.requires.0 in
-    rw c.slot_in-a.ensures.0 (held_there p.ready.formed _ p.inside 0 0 ((let is = c.kind_in.ensures in
-    omega (arith, c.requires.1, c.if-kind_in-eq1.false))) (omega arith))
+    rw c.slot_in-a.ensures.0 (held_there p.ready.formed _ p.inside 0 0 (no_field c.kind_in.ensures c.requires.1 c.if-kind_in-eq1.false) (omega arith))
 
 pub constant-requires : goal.constant-requires
 constant-requires c = c.requires.0.ready.askable
 
 pub returns : goal.returns
 returns c =
-    constant_word c.requires.0 ((let is = c.kind_in.ensures in
-    omega (arith, c.requires.1, c.if-kind_in-eq1.false))) c.slot_in-a.ensures.0 c.constant_in.ensures c.constant.ensures c.word-2.ensures
+    constant_word c.requires.0 (no_field c.kind_in.ensures c.requires.1 c.if-kind_in-eq1.false) c.slot_in-a.ensures.0 c.constant_in.ensures c.constant.ensures c.word-2.ensures

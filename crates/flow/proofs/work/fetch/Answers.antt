@@ -22,7 +22,7 @@ pub loop-i-preserved : goal.loop-i-preserved
 unfolding cell_at
 loop-i-preserved c =
     let inside = c.loop-i-test.true in
-    (omega arith, fetch_next c.args.store.now _ _ _ (omega (arith, c.requires.0)) c.loop-i.invariant.1 ((ap₂ cell (c.word.ensures.value ∙ c.value_at.ensures) (ap mark_of (c.word.ensures.mark-is ∙ c.mark_at.ensures.0)))))
+    (omega arith, fetch_next c.args.store.now _ _ _ (omega (arith, c.requires.0)) c.loop-i.invariant.1 (ap₂ cell (c.word.ensures.value ∙ c.value_at.ensures) (ap mark_of (c.word.ensures.mark-is ∙ c.mark_at.ensures.0))))
 
 pub returns : goal.returns
 returns c =
