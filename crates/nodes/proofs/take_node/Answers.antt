@@ -1,4 +1,4 @@
--- what the code has read, in the arm of a kind
+-- The arm of each kind looks at the node's operator and slots for what that kind has in them.
 use native.Mathlib.Omega.{arith}
 use Prim.Native.Nat.{ℕ}
 use mathlib.Core.List.{List}
@@ -8,6 +8,7 @@ use Rattle.nodes.specs.Nodes.{kind_at, op_at, slot_at, kinds, held_in, known, op
 use Rattle.nodes.proofs.Taken.{Read, an_operator, no_child, unknown, taken}
 use Rattle.nodes.proofs.take_node.Goals as goal
 
+-- what the code has read, in the arm of a kind
 read : {s : List ℕ} {n kind got op a b c : ℕ} → got ≡ kind → got ≡ kind_at s n → op ≡ op_at s n → a ≡ slot_at s n 0 → b ≡ slot_at s n 1 → c ≡ slot_at s n 2
     → Read s n kind op a b c
 read e k o x y z = record { kind-is = sym e ∙ k; op_is = o; a_is = x; b_is = y; c_is = z }
