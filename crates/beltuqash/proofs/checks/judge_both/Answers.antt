@@ -14,8 +14,8 @@ returns-then-verdict-ne-DONE c =
 
 pub judge_store-requires : goal.judge_store-requires
 unfolding load
-judge_store-requires c = sheet_holds _ ((all_hold_lem _ (sheet_numbered _) (ap (λ (a : Answer). a.number) (sym c.judge_sheet-verdict.ensures) ∙ c.if-verdict-ne-DONE.false)))
+judge_store-requires c = sheet_holds _ (all_hold_lem _ (sheet_numbered _) (ap (λ (a : Answer). a.number) (sym c.judge_sheet-verdict.ensures) ∙ c.if-verdict-ne-DONE.false))
 
 pub returns : goal.returns
 unfolding load
-returns c = c.judge_store.ensures ∙ sym (append-holds _ _ ((all_hold_lem _ (sheet_numbered _) (ap (λ (a : Answer). a.number) (sym c.judge_sheet-verdict.ensures) ∙ c.if-verdict-ne-DONE.false)))).1
+returns c = c.judge_store.ensures ∙ sym (append-holds _ _ (all_hold_lem _ (sheet_numbered _) (ap (λ (a : Answer). a.number) (sym c.judge_sheet-verdict.ensures) ∙ c.if-verdict-ne-DONE.false))).1

@@ -13,8 +13,8 @@ returns-then-refused-ne-DONE c =
     told ∙ sym (append-fails _ _ (some-fails _ (λ e. c.if-refused-ne-DONE.true (ap (λ (a : Answer). a.number) told ∙ e)))).1
 
 pub judge_request-requires : goal.judge_request-requires
-judge_request-requires c = both_hold _ _ _ ((all_hold_lem _ (both_numbered _ _ _) (ap (λ (a : Answer). a.number) (sym c.judge_both-refused.ensures) ∙ c.if-refused-ne-DONE.false)))
+judge_request-requires c = both_hold _ _ _ (all_hold_lem _ (both_numbered _ _ _) (ap (λ (a : Answer). a.number) (sym c.judge_both-refused.ensures) ∙ c.if-refused-ne-DONE.false))
 
 pub returns : goal.returns
 unfolding mode_of
-returns c = c.judge_request.ensures ∙ sym (append-holds _ _ ((all_hold_lem _ (both_numbered _ _ _) (ap (λ (a : Answer). a.number) (sym c.judge_both-refused.ensures) ∙ c.if-refused-ne-DONE.false)))).1
+returns c = c.judge_request.ensures ∙ sym (append-holds _ _ (all_hold_lem _ (both_numbered _ _ _) (ap (λ (a : Answer). a.number) (sym c.judge_both-refused.ensures) ∙ c.if-refused-ne-DONE.false))).1

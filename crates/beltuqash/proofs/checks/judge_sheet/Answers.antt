@@ -11,4 +11,4 @@ pub overflow_cast-place : goal.overflow_cast-place
 overflow_cast-place c = omega (arith, (c.place.ensures ∙ ap verdict_place c.load-verdict.ensures), load-placed c.args.sheet.now)
 
 pub returns : goal.returns
-returns c = c.refusal.ensures ∙ ap₂ refusal ((c.number.ensures ∙ ap verdict_number c.load-verdict.ensures)) ((c.place.ensures ∙ ap verdict_place c.load-verdict.ensures)) ∙ sym (load_is _)
+returns c = c.refusal.ensures ∙ ap₂ refusal (c.number.ensures ∙ ap verdict_number c.load-verdict.ensures) (c.place.ensures ∙ ap verdict_place c.load-verdict.ensures) ∙ sym (load_is _)

@@ -49,7 +49,7 @@ loop-i-preserved c =
     let count = c.args.fields % 256 in (
       omega arith,
       c.put_field.ensures
-          ∙ ap₂ (λ (l e : List ℕ). sets l (entry_at i) e) inv.1 ((ap₂ (λ (b : ℕ) (v : Value). b ∷ bytes_of v.n) c.mark_in.ensures c.value_in.ensures ∙ word_entry _))
+          ∙ ap₂ (λ (l e : List ℕ). sets l (entry_at i) e) inv.1 (ap₂ (λ (b : ℕ) (v : Value). b ∷ bytes_of v.n) c.mark_in.ensures c.value_in.ensures ∙ word_entry _)
           ∙ fill_next count (store_entries σ i) (entry_of (σ i)) (entry_at i) (entry_at (i + 1)) (headed count z) (omega (arith, entries-length σ i)) (omega (arith, entry_length_lem (σ i)))
           (omega (arith, c.requires.1, headed_length count z))
           ∙ ap (λ (l : List ℕ). filled count l (entry_at (i + 1)) (headed count z)) (one_entry_more σ i),

@@ -25,12 +25,12 @@ field_at-requires c = omega (arith, c.loop-i-test.true, c.if-request-asked.false
 
 pub returns-then-fields-field_at : goal.returns-then-fields-field_at
 returns-then-fields-field_at c =
-    let inside : c.loop-i.i < asked_count ((c.args.request.now)) = omega (arith, c.loop-i-test.true, c.count-asked.ensures.0) in
+    let inside : c.loop-i.i < asked_count c.args.request.now = omega (arith, c.loop-i-test.true, c.count-asked.ensures.0) in
     sym (is_wrong _ _ (λ r. omega (arith, r.known _ inside, c.field_at.ensures.0, c.if-fields-field_at.true)))
 
 pub loop-i-preserved : goal.loop-i-preserved
 loop-i-preserved c =
-    let less : field_asked ((c.args.request.now)) c.loop-i.i < c.args.fields = omega (arith, c.field_at.ensures.0, c.if-fields-field_at.false) in
+    let less : field_asked c.args.request.now c.loop-i.i < c.args.fields = omega (arith, c.field_at.ensures.0, c.if-fields-field_at.false) in
     all_more _ _ c.loop-i.invariant (lt-ltb _ _ less)
 
 pub returns : goal.returns
