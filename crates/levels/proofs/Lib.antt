@@ -6,6 +6,7 @@ pub mod Joins
 pub mod Laws
 pub mod Order
 mod Judging
+mod Ranges
 mod Rows
 mod Scan
 mod Sets

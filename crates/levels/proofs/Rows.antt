@@ -1,13 +1,16 @@
 -- Rows as sets of levels: two levels with one row are one, the row of a join is the intersection of both rows, the lowest level's row has every
 -- level; so a search for such a row finds that level.
-use Prim.Native.Nat.{ℕ, ◌-◌, ◌^◌, ◌<◌}
-use mathlib.Core.Path.{◌≡◌, sym, ◌∙◌}
+use Prim.Native.Nat.{ℕ, ◌-◌, ◌^◌, ◌<◌, ◌≤◌}
+use native.Mathlib.Omega.{arith}
+use mathlib.Core.Path.{◌≡◌, ap, sym, ◌∙◌}
+use mathlib.Core.Logic.{◌≢◌}
 use mathlib.Core.Bool.{true, ◌&&◌}
 use mathlib.Core.List.{List}
-use borrow.Author.Tests.{ltb-true, lt-ltb, eqb-true, eq-eqb}
+use borrow.Author.Tests.{eqb-true, eq-eqb}
 use lib.Bits.{and_lt}
 use lib.Pow.{ones_lt}
-use Rattle.basis.proofs.Tests.{both, and_of_lem, which-at, some_of, iff}
+use Rattle.std.specs.Prelude.{Option, Some, None, MatchOption, is_some}
+use Rattle.basis.proofs.Tests.{both, and_of_lem, is_false, which-at, some_of, iff}
 use Rattle.levels.specs.Levels.{bit, count, row_at, below, right, join_of, lowest_of}
 use Rattle.levels.specs.Inside.Judging.{above_both, is_row, WithRow}
 use Rattle.levels.proofs.Sets.{bit_and_lem, bit_ext, bit_full}
@@ -33,9 +36,17 @@ module _ (s : List ℕ) where
   unfolding is_row
   row_at_lem row h = let w = which-at (count s) _ h in (_, w.0, eqb-true _ _ w.1)
 
-  -- a level that has the row is what a search for it may give
-  pub has_row : (k row : ℕ) → k < count s → row_at s k ≡ row → WithRow s row k
-  has_row k row d e = record { found = lt-ltb k (count s) d ∙ sym (is_row_lem k row d e); is = λ h. e }
+  -- what a search of the numbers below the count found
+  pub found_row : (row : ℕ) (r : Option ℕ)
+      → MatchOption r ((k : ℕ) → 0 ≤ k → k < count s → row_at s k ≢ row)
+      (λ k. (0 ≤ k) × (k < count s) × (row_at s k ≡ row) × ((j : ℕ) → 0 ≤ j → j < k → row_at s j ≢ row))
+      → WithRow s row r
+  found_row row None h = λ k. h k (omega arith)
+  found_row row (Some k) h = (h.1, h.2)
+
+  pub is_some_row : (row : ℕ) (r : Option ℕ) → WithRow s row r → is_some r ≡ is_row s row
+  is_some_row row None w = sym (is_false _ (λ h. let (k, d, e) = row_at_lem row h in w k d e))
+  is_some_row row (Some k) w = sym (is_row_lem k row w.0 w.1)
 
   module _ (h : right s ≡ true) where
     -- levels with one row are one
@@ -68,7 +79,6 @@ module _ (s : List ℕ) where
         row_is _ _ low.level (ones_lt (count s)) (λ l m. low.upper l m ∙ sym (bit_full (count s) l m))
 
     -- a search for the row of level k finds k
-    pub with_row : (row r k : ℕ) → WithRow s row r → k < count s → row_at s k ≡ row → (r ≡ k) × (r < count s)
-    with_row row r k w d e =
-        let inside = ltb-true r (count s) (w.found ∙ is_row_lem k row d e) in
-        (row_one r k inside d (w.is inside ∙ sym e), inside)
+    pub with_row : (row : ℕ) (r : Option ℕ) (k : ℕ) → WithRow s row r → k < count s → row_at s k ≡ row → r ≡ Some k
+    with_row row None k w d e = absurd (w k d e)
+    with_row row (Some j) k w d e = ap Some (row_one j k w.0 d (w.1 ∙ sym e))

@@ -1,3 +1,4 @@
 -- What only contracts inside the product cite.
+pub mod Climbing
 pub mod Judging
 pub mod Two

@@ -3,8 +3,9 @@
 // intersection of both rows, and the lowest level's row has every level.
 #![tactic(auto)]
 
-ghost use Rattle.std.specs.Prelude.{◌≡◌, true, ◌-◌, ◌^◌, ◌<◌, ◌≤◌};
+ghost use Rattle.std.specs.Prelude.{◌≡◌, true, ℕ, ◌-◌, ◌^◌, ◌<◌, ◌≤◌};
 ghost use Rattle.levels.specs.Levels.{bit, count, row_at, below, right, join_of, meet_of, lowest_of, highest_of};
+ghost use Rattle.levels.specs.Inside.Climbing.{Climbs, IsSummit};
 ghost use Rattle.levels.specs.Inside.Two.{Two};
 ghost use Rattle.levels.specs.Inside.Judging.{above_both, WithRow, pair_right, level_right};
 
@@ -14,20 +15,9 @@ pub fn right(rows: &[u8]) -> bool
     ensures { result ≡ right rows.now }
 {
     let n = rows.len() / 2;
-    if n == 0 {
-        return false;
-    }
-    if 16 < n {
-        return false;
-    }
-    let mut i: usize = 0;
-    while i < n {
-        if !level_right(rows, i) {
-            return false;
-        }
-        i += 1;
-    }
-    with_row(rows, full(n)) < n
+    (1..=16).contains(&n)
+        && (0..n).all(|i| level_right(rows, i))
+        && with_row(rows, full(n)).is_some()
 }
 
 // Whether level i makes a right pair with each level.
@@ -35,15 +25,7 @@ fn level_right(rows: &[u8], i: usize) -> bool
     requires { (i < count rows.now) × (count rows.now ≤ 16) }
     ensures { result ≡ level_right rows.now i }
 {
-    let n = rows.len() / 2;
-    let mut j: usize = 0;
-    while j < n {
-        if !pair_right(rows, i, j) {
-            return false;
-        }
-        j += 1;
-    }
-    true
+    (0..rows.len() / 2).all(|j| pair_right(rows, i, j))
 }
 
 // Whether i lies at or below j exactly if row j lies within row i, no two levels have one row, and some level's row is the intersection of both:
@@ -55,14 +37,11 @@ fn pair_right(rows: &[u8], i: usize, j: usize) -> bool
     let row_i = row(rows, i);
     let row_j = row(rows, j);
     let ordered = (has(row_i, j) == ((row_i & row_j) == row_j)) & ((row_i != row_j) | (i == j));
-    if j < i {
-        return ordered;
-    }
-    ordered & (with_common_row(rows, i, j) < rows.len() / 2)
+    ordered && (j < i || with_common_row(rows, i, j).is_some())
 }
 
-// The level whose row is the intersection of rows i and j, or the count if none has it: without a search if it is one of the two.
-fn with_common_row(rows: &[u8], i: usize, j: usize) -> usize
+// The level whose row is the intersection of rows i and j: without a search if it is one of the two.
+fn with_common_row(rows: &[u8], i: usize, j: usize) -> Option<usize>
     requires { (i < count rows.now) × (j < count rows.now) }
     ensures { WithRow rows.now (above_both rows.now i j) result }
 {
@@ -70,27 +49,19 @@ fn with_common_row(rows: &[u8], i: usize, j: usize) -> usize
     let row_j = row(rows, j);
     let both = row_i & row_j;
     if both == row_j {
-        return j;
+        return Some(j);
     }
     if both == row_i {
-        return i;
+        return Some(i);
     }
     with_row(rows, both)
 }
 
-// The level that has this row, or the count if none has it.
-fn with_row(rows: &[u8], wanted: u32) -> usize
+// The level that has this row.
+fn with_row(rows: &[u8], wanted: u32) -> Option<usize>
     ensures { WithRow rows.now wanted result }
 {
-    let n = rows.len() / 2;
-    let mut k: usize = 0;
-    while k < n {
-        if row(rows, k) == wanted {
-            return k;
-        }
-        k += 1;
-    }
-    n
+    (0..rows.len() / 2).find(|&k| row(rows, k) == wanted)
 }
 
 // Whether level i lies at or below level j.
@@ -106,7 +77,7 @@ pub fn join(rows: &[u8], i: usize, j: usize) -> usize
     requires { Two rows.now i j }
     ensures { (result ≡ join_of rows.now i j) × (result < count rows.now) }
 {
-    with_common_row(rows, i, j)
+    with_common_row(rows, i, j).unwrap()
 }
 
 // The greatest lower bound of levels i and j: from the lowest level on, up to each level that lies at or below both.
@@ -114,16 +85,11 @@ pub fn meet(rows: &[u8], i: usize, j: usize) -> usize
     requires { Two rows.now i j }
     ensures { (result ≡ meet_of rows.now i j) × (result < count rows.now) }
 {
-    let n = rows.len() / 2;
-    let mut found = lowest(rows);
-    let mut k: usize = 0;
-    while k < n {
-        if at_or_below(rows, found, k) & at_or_below(rows, k, i) & at_or_below(rows, k, j) {
-            found = k;
-        }
-        k += 1;
-    }
-    found
+    climb(
+        rows,
+        lowest(rows),
+        |k| at_or_below(rows, k, i) && at_or_below(rows, k, j),
+    )
 }
 
 // BOT: the level whose row has every level.
@@ -131,7 +97,7 @@ pub fn lowest(rows: &[u8]) -> usize
     requires { right rows.now ≡ true }
     ensures { (result ≡ lowest_of rows.now) × (result < count rows.now) }
 {
-    with_row(rows, full(rows.len() / 2))
+    with_row(rows, full(rows.len() / 2)).unwrap()
 }
 
 // TOP: from level 0 on, up to each level above.
@@ -139,14 +105,19 @@ pub fn highest(rows: &[u8]) -> usize
     requires { right rows.now ≡ true }
     ensures { (result ≡ highest_of rows.now) × (result < count rows.now) }
 {
-    let n = rows.len() / 2;
-    let mut found: usize = 0;
-    let mut k: usize = 0;
-    while k < n {
-        if at_or_below(rows, found, k) {
+    climb(rows, 0, |_| true)
+}
+
+// From a level on, up to each level above it that passes: the highest that passes, if one lies above all that do and above the first.
+fn climb<F: Fn(usize) -> bool>(rows: &[u8], from: usize, passes: F) -> usize
+    requires { Climbs rows.now from (F.pre passes) }
+    ensures { (m : ℕ) → IsSummit rows.now from (F.post passes) m → result ≡ m }
+{
+    let mut found = from;
+    for k in 0..rows.len() / 2 {
+        if at_or_below(rows, found, k) && passes(k) {
             found = k;
         }
-        k += 1;
     }
     found
 }

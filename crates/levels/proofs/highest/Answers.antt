@@ -1,22 +1,15 @@
--- Every level lies at or below the highest, so the search of `Scan` only goes up, and stays at the highest once it is there.
-use native.Mathlib.Omega.{arith}
-use mathlib.Core.Path.{sym, ◌∙◌}
-use Rattle.levels.proofs.Scan.{highest_first, highest_next}
+-- The highest level is the summit if every level passes.
+use borrow.Author.Rules.{rules}
+use Rattle.levels.proofs.Facts.{facts}
+use Rattle.levels.proofs.Bounds.{highest_is}
+use Rattle.levels.proofs.Scan.{highest-summit}
 use Rattle.levels.proofs.highest.Goals as goal
-use Rattle.levels.proofs.highest.Goals.{then-at_or_below, else-at_or_below}
 
-pub loop-k-init : goal.loop-k-init
-loop-k-init c = highest_first c.args.rows.now c.requires
-
-pub loop-k-preserved : goal.loop-k-preserved
-loop-k-preserved c =
-    let inside = c.loop-k-test.true in
-    let step = highest_next c.args.rows.now c.requires c.loop-k.k c.loop-k.found inside c.loop-k.invariant in
-    let tested = sym c.at_or_below.ensures in
-    elim c.if-at_or_below.branch [
-      | then-at_or_below w ↦ rw w.found-is (step _ (tested ∙ w.if-at_or_below.true))
-      | else-at_or_below w ↦ rw w.found-is (step _ (tested ∙ w.if-at_or_below.false))
-    ]
+pub climb-requires : goal.climb-requires
+climb-requires c = record { rows = c.requires; level = (facts c.args.rows.now c.requires).up.some_level; asks = λ k d. search rules }
 
 pub returns : goal.returns
-returns c = let found = c.loop-k.invariant in (found.passed (omega arith), found.level)
+returns c =
+    let s = c.args.rows.now in
+    let found = c.climb.ensures _ (highest-summit s c.requires _ (λ k b e. search rules)) in
+    (found, rw found (highest_is s c.requires).level)

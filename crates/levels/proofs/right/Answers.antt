@@ -1,37 +1,37 @@
--- A level that makes a wrong pair decides; past the last one the rows are right exactly if some row has every level.
-use borrow.Author.Count.{below_more}
-use native.Mathlib.Omega.{arith}
-use mathlib.Core.Path.{sym, ◌∙◌}
+-- The count and every level are judged; where they pass, the rows are right exactly if some row has every level.
+use borrow.Author.Rules.{rules}
+use borrow.Author.Tests.{tests}
+use mathlib.Core.Path.{◌≡◌, refl, sym, ◌∙◌}
 use mathlib.Core.Bool.{true≢false}
-use Rattle.basis.proofs.Tests.{is_false}
-use Rattle.levels.specs.Levels.{right}
+use Prim.Native.Nat.{◌<◌, ◌≤◌}
+use Rattle.basis.specs.Tests.{all}
+use Rattle.basis.proofs.Tests.{is_false, all-at, all_of}
+use Rattle.levels.specs.Levels.{count, right}
+use Rattle.levels.specs.Inside.Judging.{level_right}
 use Rattle.levels.proofs.Facts.{facts}
 use Rattle.levels.proofs.Judging.{level-right, judged}
+use Rattle.levels.proofs.Ranges.{range-all}
+use Rattle.levels.proofs.Rows.{is_some_row}
 use Rattle.levels.proofs.right.Goals as goal
+use Rattle.levels.proofs.right.Goals.{then-contains, else-contains}
 
-pub returns-then-n-eq0 : goal.returns-then-n-eq0
-returns-then-n-eq0 c =
+pub returns-then-all : goal.returns-then-all
+returns-then-all c =
     let s = c.args.rows.now in
-    sym (is_false (right s) (λ h. omega (arith, (facts s h).up.some_level)))
+    elim c.if-contains.branch [
+      | then-contains w ↦
+          let limits : (0 < count s) × (count s ≤ 16) = search (rules, tests) in
+          let asked : w.all.result ≡ all (count s) (level_right s) = range-all _ _ _ refl w.all.ensures.ran (λ j b q h. search (rules, tests)) in
+          c.is_some.ensures ∙ is_some_row s _ _ c.with_row.ensures ∙ rw c.full.ensures (judged s limits.0 limits.1 (all-at _ _ (sym asked ∙ sym w.value-is ∙ c.if-all.true)))
+      | else-contains w ↦ absurd (true≢false (sym c.if-all.true ∙ w.value-is ∙ w.if-contains.false))
+    ]
 
-pub returns-then-n-gt16 : goal.returns-then-n-gt16
-returns-then-n-gt16 c =
+pub returns-else-all : goal.returns-else-all
+returns-else-all c =
     let s = c.args.rows.now in
-    sym (is_false (right s) (λ h. omega (arith, (facts s h).few)))
-
-pub loop-i-init : goal.loop-i-init
-loop-i-init c = λ l h. absurd (omega arith)
-
-pub returns-then-not-level_right : goal.returns-then-not-level_right
-returns-then-not-level_right c =
-    let s = c.args.rows.now in
-    let fails = sym c.level_right.ensures ∙ c.if-not-level_right.true in
-    sym (is_false (right s) (λ h. true≢false (sym (level-right s h _ c.loop-i-test.true) ∙ fails)))
-
-pub loop-i-preserved : goal.loop-i-preserved
-loop-i-preserved c = below_more _ _ c.loop-i.invariant (sym c.level_right.ensures ∙ c.if-not-level_right.false)
-
-pub returns : goal.returns
-returns c =
-    let s = c.args.rows.now in
-    c.with_row.ensures.found ∙ rw c.full.ensures (judged s (omega arith) (omega arith) (λ i h. c.loop-i.invariant i (omega arith)))
+    c.if-all.false ∙ sym (is_false (right s) (λ h. elim c.if-contains.branch [
+      | then-contains w ↦
+          let asked : w.all.result ≡ all (count s) (level_right s) = range-all _ _ _ refl w.all.ensures.ran (λ j b q h. search (rules, tests)) in
+          true≢false (sym (all_of (count s) _ (level-right s h)) ∙ sym asked ∙ sym w.value-is ∙ c.if-all.false)
+      | else-contains w ↦ let few = (facts s h).few in let some_level = (facts s h).up.some_level in search (rules, tests)
+    ]))

@@ -1,6 +1,6 @@
 -- How the code judges the rows: pair by pair, as sets of levels. It comes to the same as `Levels`, for less work. Only the contracts of private
 -- functions cite this file; no public promise rests on it.
-use Rattle.std.specs.Prelude.{ℕ, ◌<◌, ◌≡◌, Bool, not, ◌&&◌, ◌||◌, List, ltb, eqb}
+use Rattle.std.specs.Prelude.{ℕ, ◌<◌, ◌≡◌, ◌≢◌, Bool, not, ◌&&◌, ◌||◌, List, Option, MatchOption, ltb, eqb}
 use Rattle.std.specs.Bool.{beq}
 use Rattle.std.specs.Int.Bits.{bit_and}
 use Rattle.basis.specs.Tests.{all, some}
@@ -15,10 +15,9 @@ module _ (s : List ℕ) where
   unfoldable pub is_row : ℕ → Bool
   is_row row = some (count s) (λ k. eqb (row_at s k) row)
 
-  -- r is a level exactly if some level has this row, and then r has it
-  pub record WithRow (row r : ℕ) : Type 0 where
-    pub found : ltb r (count s) ≡ is_row row
-    pub is : r < count s → row_at s r ≡ row
+  -- a level that has this row, or none if no level has it
+  abbrev pub WithRow : ℕ → Option ℕ → Type 0
+  WithRow row r = MatchOption r ((k : ℕ) → k < count s → row_at s k ≢ row) (λ k. (k < count s) × (row_at s k ≡ row))
 
   -- i lies at or below j exactly if row j lies within row i; levels with one row are one; some level's row is the intersection of both, asked
   -- only where j is not the lower number
