@@ -13,8 +13,8 @@ use Rattle.std.specs.List.{list_all, list_any, enumerate_from}
 use Rattle.std.specs.Cmp.Lexicographic.{pointwise}
 use Rattle.std.specs.Simd.{first_chunks}
 use Rattle.basis.proofs.Tests.{all_same}
+use Rattle.basis.proofs.Lists.{list_all_lem, list_any_lem, pointwise_lem}
 use Rattle.names.specs.Names.{NameIn, is_letter, follows_at, good_name, same_name, new_name, names_right}
-use Rattle.names.proofs.Lists.{list_all_lem, list_any_lem, pointwise_lem}
 
 -- name i
 abbrev name_in : List ℕ → ℕ → List ℕ

@@ -1,3 +1,2 @@
--- Tests of lists as tests of their places (`Lists`), and names cut out of the bytes (`Cut`).
-mod Lists
+-- Names cut out of the bytes.
 mod Cut

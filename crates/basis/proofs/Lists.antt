@@ -1,15 +1,17 @@
--- Tests of the elements of a list, as tests of all its places.
+-- What iterators test of a list, as tests of all its places; and of a range, as tests of all the numbers below its end.
 use Prim.Native.Nat.{ℕ, zero, suc, ◌<◌}
+use native.Mathlib.Nat.{zero-add}
 use native.Mathlib.Omega.{arith}
 use mathlib.Core.Path.{◌≡◌, refl, sym, ap, ◌∙◌}
 use mathlib.Core.Bool.{Bool, true, false, not, ◌&&◌, ◌||◌}
 use mathlib.Core.List.{List, [], ◌∷◌}
 use lib.Dec.{eqb}
 use lib.ListN.{length, get_or}
-use Rattle.std.specs.List.{list_all, list_any}
+use Rattle.std.specs.List.{list_all, list_any, range_with_len}
 use Rattle.std.specs.Cmp.Lexicographic.{pointwise}
+use Rattle.std.proofs.lemmas.List.FromFn.{length-range_with_len, get_or-range_with_len}
 use Rattle.basis.specs.Tests.{all}
-use Rattle.basis.proofs.Tests.{both, and_of_lem, iff, all-at, all_of, all_none}
+use Rattle.basis.proofs.Tests.{both, and_of_lem, iff, all-at, all_of, all_none, all_same}
 
 -- all below n + 1 is the first and all after it
 all_front : (n : ℕ) (P : ℕ → Bool) → all (suc n) P ≡ (P 0 && all n (λ i. P (suc i)))
@@ -41,3 +43,9 @@ pointwise_lem [] [] e = sym (all_none _)
 pointwise_lem [] (y ∷ ys) e = absurd (cc)
 pointwise_lem (x ∷ xs) [] e = absurd (cc)
 pointwise_lem (x ∷ xs) (y ∷ ys) e = ap (λ (b : Bool). eqb x y && b) (pointwise_lem xs ys (omega arith)) ∙ sym (all_front (length xs) _)
+
+-- the numbers below n, as `0..n` gives them
+pub list_all_below : (p : ℕ → Bool) (n : ℕ) → list_all p (range_with_len 0 n) ≡ all n p
+list_all_below p n =
+    list_all_lem p (range_with_len 0 n) 0
+    ∙ rw (length-range_with_len 0 n) (all_same n _ p (λ i l. ap p (get_or-range_with_len 0 n i 0 l ∙ zero-add i)))
