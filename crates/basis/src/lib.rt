@@ -7,17 +7,10 @@ pub mod numbers;
 ghost use Rattle.std.specs.Prelude.{◌≡◌, ◌+◌, ◌≤◌, ◌<◌, length};
 ghost use Rattle.basis.specs.Bytes.{word_at};
 
-// Two bytes at an offset, lowest first.
+/// Two bytes at an offset, lowest first.
 pub fn word(bytes: &[u8], at: usize) -> u32
     requires { at + 2 ≤ length bytes.now }
     ensures { (result ≡ word_at bytes.now at) × (result < 65536) }
 {
-    wide(bytes[at]) + wide(bytes[at + 1]) * 256
-}
-
-// A byte as a number, with its bound.
-pub fn wide(byte: u8) -> u32
-    ensures { (result ≡ byte) × (result < 256) }
-{
-    byte as u32
+    u32::from(u16::from_le_bytes([bytes[at], bytes[at + 1]]))
 }

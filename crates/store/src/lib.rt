@@ -88,7 +88,7 @@ pub fn mark_at(store: &[u8], i: usize) -> u32
     requires { store_length (i + 1) ≤ length store.now }
     ensures { (result ≡ mark_at store.now i) × (result < 256) }
 {
-    basis::wide(store[2 + i * ENTRY])
+    u32::from(store[2 + i * ENTRY])
 }
 
 // Field i's value.

@@ -43,7 +43,7 @@ fn trial<W: Write>(output: &mut W, input: &[u8], at: usize) -> io::Result<usize>
     ensures { IfOk result (λ end. at < end) }
 {
     let name_at = at + 1;
-    let length_at = name_at + basis::wide(input[at]) as usize;
+    let length_at = name_at + usize::from(input[at]);
     if input.len() < length_at + 2 {
         return Ok(input.len());
     }

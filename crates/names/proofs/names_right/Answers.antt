@@ -1,32 +1,19 @@
--- A name that is not good or not new decides; past the last one all are both.
-use mathlib.Core.Path.{refl, sym, ap, ◌∙◌}
-use mathlib.Core.Bool.{Bool, ◌&&◌}
-use Rattle.basis.proofs.Tests.{and_of_lem, and_false, all_none, all_more, all_done, all-fails}
-use Rattle.names.specs.Names.{good_name, new_name, names_right}
+-- By the test of each name, beside those before it.
+use mathlib.Core.Path.{◌∙◌}
+use borrow.Author.Rules.{rules}
+use borrow.Author.Tests.{tests}
+use Rattle.std.proofs.lemmas.Iterator.{YieldsList-from_slice}
+use Rattle.std.proofs.lemmas.Iterator.Consumers.{YieldsList-from_enumerate}
+use Rattle.std.proofs.lemmas.Iterator.Search.{all_from_yields_List}
+use Rattle.names.proofs.Cut.{is_right, names_lem}
 use Rattle.names.proofs.names_right.Goals as goal
 
-pub loop-i-init : goal.loop-i-init
-loop-i-init c = (refl, all_none _)
-
-pub returns-then-not-good_name : goal.returns-then-not-good_name
-unfolding names_right
-returns-then-not-good_name c =
-    let bad = sym c.good_name.ensures ∙ c.if-not-good_name.true in
-    sym (all-fails _ _ _ c.loop-i-test.true (ap (λ (b : Bool). b && new_name c.args.fields.now c.loop-i.i) bad))
-
-pub returns-then-not-new_name : goal.returns-then-not-new_name
-unfolding names_right
-returns-then-not-new_name c =
-    let repeated = sym c.new_name.ensures ∙ c.if-not-new_name.true in
-    sym (all-fails _ _ _ c.loop-i-test.true (and_false (good_name _ _) _ repeated))
-
-pub loop-i-preserved : goal.loop-i-preserved
-loop-i-preserved c =
-    let good = sym c.good_name.ensures ∙ c.if-not-good_name.false in
-    let new = sym c.new_name.ensures ∙ c.if-not-new_name.false in
-    let inv = c.loop-i.invariant in
-    (inv.0, all_more _ _ inv.1 (and_of_lem good new))
-
 pub returns : goal.returns
-unfolding names_right
-returns c = sym (all_done _ _ _ c.loop-i-test.false c.loop-i.invariant.1)
+returns c =
+    let names = c.as_chunks.result.0.now in
+    let same =
+    all_from_yields_List (is_right names) _ _ c.all.result c.all.ensures.ran
+    (YieldsList-from_enumerate (YieldsList-from_slice names (cc)) c.enumerate.ensures.count)
+    (λ x b q k. search (rules, tests))
+    in
+    rw c.as_chunks.ensures.front at same ∙ names_lem c.args.fields.now

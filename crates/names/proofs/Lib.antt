@@ -1,0 +1,2 @@
+-- Names cut out of the bytes.
+mod Cut
