@@ -9,7 +9,6 @@ ghost use Rattle.beltuqash.specs.Inside.Given.{Taken};
 use basis::answer::{Answer, refusal, success};
 use basis::numbers;
 use handout::{answers, requests};
-use sections::verdict;
 
 // A hand-out takes any mark that the sheet knows, as a permissive run does.
 const PERMISSIVE: u32 = 1;
@@ -18,8 +17,10 @@ const PERMISSIVE: u32 = 1;
 pub fn judge_sheet(sheet: &[u8]) -> Answer
     ensures { result ≡ load sheet.now }
 {
-    let verdict = sheet::load(sheet);
-    refusal(verdict::number(verdict), verdict::place(verdict) as u16)
+    match sheet::load(sheet) {
+        Ok(()) => success(0),
+        Err(wrong) => refusal(wrong.number(), wrong.place() as u16),
+    }
 }
 
 // A store, beside a sheet that passes: 8 and 9.
