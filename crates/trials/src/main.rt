@@ -2,31 +2,17 @@
 // length (2 bytes), the sheet. A line comes out for each: the name and what load answers, number, place and units.
 #![tactic(auto)]
 
-ghost use Rattle.std.specs.Prelude.{◌<◌, ◌≤◌, length, IfOk};
+ghost use Rattle.std.specs.Prelude.{◌<◌, length, IfOk};
 
 use basis::answer::{Answer, unpack};
+use input::read_full;
 use std::io;
-use std::io::{Read, Write};
+use std::io::Write;
 
 fn main(rt: HostRuntime) -> io::Result<()> {
     let mut buffer = [0u8; 65536];
     let n = read_full(&mut rt.stdin(), &mut buffer)?;
     all_trials(&mut rt.stdout(), &buffer[..n])
-}
-
-// Reads until the buffer is full or the input ends, and gives how many bytes it read.
-fn read_full<R: Read>(input: &mut R, buffer: &mut [u8]) -> io::Result<usize>
-    ensures { IfOk result (λ n. n ≤ length buffer.new) }
-{
-    let mut done = 0;
-    while done < buffer.len() {
-        let n = input.read(&mut buffer[done..])?;
-        if n == 0 {
-            break;
-        }
-        done += n;
-    }
-    Ok(done)
 }
 
 fn all_trials<W: Write>(output: &mut W, input: &[u8]) -> io::Result<()> {
