@@ -17,20 +17,21 @@ divided : (x y q : ℤ) → ◌≡◌ {A = Result ℤ ArithmeticError} (Ok q) (c
     → (eq_z y (pos 0) ≡ false) × (0 < nat_abs y) × (q ≡ quot x y)
 divided x y q e = grind arith
 
-left : (x y q r s : ℤ) → SFits w32 x → SFits w32 y → SFits w64 q → r ≡ to_z w32 (of_z w32 x) → s ≡ to_z w32 (of_z w32 y) → (0 < nat_abs y) × (q ≡ quot x y)
+left : (x y q r s : ℤ) → SFits w32 x → SFits w32 y → SFits w64 q → r ≡ to_z w32 (of_z w32 x) → s ≡ to_z w32 (of_z w32 y) → 0 < nat_abs y → q ≡ quot x y
     → (read r -ℤ read (read q *ℤ read s) ≡ rest x y) × SFits w64 (rest x y)
-left x y q r s fx fy fq er es d =
+left x y q r s fx fy fq er es h e =
     let hr : read r ≡ x = omega (arith, ints) in
     let hs : read s ≡ y = omega (arith, ints) in
-    let hq : read q ≡ quot x y = to_z-of_z w64 _ fq ∙ d.1 in
-    let taken : read (read q *ℤ read s) ≡ quot x y *ℤ y = rw (hq, hs) (to_z-of_z w64 _ (taken-fits x y fx fy d.0)) in
-    (rw (hr, taken), rest-fits x y fx fy d.0)
+    let hq : read q ≡ quot x y = to_z-of_z w64 _ fq ∙ e in
+    let taken : read (read q *ℤ read s) ≡ quot x y *ℤ y = rw (hq, hs) (to_z-of_z w64 _ (taken-fits x y fx fy h)) in
+    (rw (hr, taken), rest-fits x y fx fy h)
 
 pub overflow_sub-from : goal.overflow_sub-from
 overflow_sub-from c =
     let x = c.args.self.n in
     let y = c.args.divisor.n in
-    let l = left x y _ _ _ (search rules) (search rules) (search rules) c.from.ensures c.from-2.ensures (divided x y _ c.in_ok-quotient.ensures).1 in
+    let d = divided x y _ c.in_ok-quotient.ensures in
+    let l = left x y _ _ _ (search rules) (search rules) (search rules) c.from.ensures c.from-2.ensures d.1 d.2 in
     rw l.0 l.1
 
 pub returns : goal.returns
@@ -39,5 +40,5 @@ returns c =
     let x = c.args.self.n in
     let y = c.args.divisor.n in
     let d = divided x y _ c.in_ok-quotient.ensures in
-    let l = left x y _ _ _ (search rules) (search rules) (search rules) c.from.ensures c.from-2.ensures d.1 in
+    let l = left x y _ _ _ (search rules) (search rules) (search rules) c.from.ensures c.from-2.ensures d.1 d.2 in
     rw d.0 (c.try_from.ensures ∙ rw l.0 (ap exactly (to_z-of_z w64 _ l.1)))
