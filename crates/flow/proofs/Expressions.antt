@@ -5,10 +5,11 @@ use mathlib.Core.Path.{◌≡◌, refl, sym, ap, ap₂, ◌∙◌}
 use mathlib.Core.List.{List}
 use lib.IntN.{ℤ}
 use lib.ListN.{get_or}
+use Rattle.std.specs.Prelude.{Ok, Err}
 use Rattle.basis.specs.Numbers as numbers
 use Rattle.value.specs.Values.{operator_of, not_of}
 use Rattle.value.specs.declared.Value.{Value}
-use Rattle.value.specs.declared.Computed.TheVariants.{Is, OutOfRange, DivisorZero}
+use Rattle.value.specs.declared.ArithmeticError.TheVariants.{OutOfRange, DivisorZero}
 use Rattle.nodes.specs.Nodes.{In, kind_at, op_at, slot_at, kinds, held_in}
 use Rattle.nodes.specs.Inside.Formed.{ExpBelow, WellFormed}
 use Rattle.sheet.specs.Trees.{constant_at, exp_at}
@@ -24,15 +25,15 @@ use Rattle.marks.proofs.Results.{answers_gives, answers_stops, answer-gives, han
 
 -- an operator on two values: a value with the joined mark, or a stop at its node
 module _ {Mark Seen Context : Type 0} (𝓜 : Marking Mark Seen Context) (place op : ℕ) (v w : Value) (m k : Seen) where
-  operated-is : (u : Value) → operator_of op v w ≡ Is u → operated 𝓜 place op (cell v m) (cell w k) ≡ gives (cell u (𝓜.join m k))
+  operated-is : (u : Value) → operator_of op v w ≡ Ok u → operated 𝓜 place op (cell v m) (cell w k) ≡ gives (cell u (𝓜.join m k))
   unfolding operated at and_then computed
   operated-is u e = rw e
 
-  operated_range : (z : ℤ) → operator_of op v w ≡ OutOfRange z → operated 𝓜 place op (cell v m) (cell w k) ≡ stops out_of_range place
+  operated_range : (z : ℤ) → operator_of op v w ≡ Err (OutOfRange z) → operated 𝓜 place op (cell v m) (cell w k) ≡ stops out_of_range place
   unfolding operated at and_then computed
   operated_range z e = rw e
 
-  operated_zero : operator_of op v w ≡ DivisorZero → operated 𝓜 place op (cell v m) (cell w k) ≡ stops divisor_zero place
+  operated_zero : operator_of op v w ≡ Err DivisorZero → operated 𝓜 place op (cell v m) (cell w k) ≡ stops divisor_zero place
   unfolding operated at and_then computed
   operated_zero e = rw e
 
@@ -146,18 +147,18 @@ module _ (parts : List (List ℕ)) (run n left right : ℕ) where
   abbrev seen : ℕ → 𝓞.Seen
   seen w = 𝓞.seen_of (mark_in w)
 
-  pub operated_word : {u : Value} {mark r : ℕ} → operator_of op (value_in left) (value_in right) ≡ Is u → Joined 𝓞 (mark_in left) (mark_in right) mark → Word u mark r
+  pub operated_word : {u : Value} {mark r : ℕ} → operator_of op (value_in left) (value_in right) ≡ Ok u → Joined 𝓞 (mark_in left) (mark_in right) mark → Word u mark r
       → Operated parts run n left right r
   operated_word {u} {mark} {r} e sees made =
       answers_gives (seen_goes 𝓞 made sees)
       (operated-is 𝓞.marking n op (value_in left) (value_in right) (seen left) (seen right) u e ∙ ap gives (seen-cell 𝓞 made sees)) (seen-known 𝓞 made sees)
 
-  pub range_word : {z : ℤ} {l r : ℕ} → operator_of op (value_in left) (value_in right) ≡ OutOfRange z → Stop numbers.out_of_range n l r → Operated parts run n left right r
+  pub range_word : {z : ℤ} {l r : ℕ} → operator_of op (value_in left) (value_in right) ≡ Err (OutOfRange z) → Stop numbers.out_of_range n l r → Operated parts run n left right r
   unfolding why_of
   range_word {z} {l} {r} e s =
       answers_stops s (omega arith, omega arith) (operated_range 𝓞.marking n op (value_in left) (value_in right) (seen left) (seen right) z e)
 
-  pub zero_word : {l r : ℕ} → operator_of op (value_in left) (value_in right) ≡ DivisorZero → Stop numbers.divisor_zero n l r → Operated parts run n left right r
+  pub zero_word : {l r : ℕ} → operator_of op (value_in left) (value_in right) ≡ Err DivisorZero → Stop numbers.divisor_zero n l r → Operated parts run n left right r
   unfolding why_of
   zero_word {l} {r} e s =
       answers_stops s (omega arith, omega arith) (operated_zero 𝓞.marking n op (value_in left) (value_in right) (seen left) (seen right) e)

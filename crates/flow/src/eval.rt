@@ -12,17 +12,17 @@ use basis::numbers;
 use marks::parts::{constant_in, kind_in, op_in, slot_in};
 use marks::words::{STOP, mark_in, stop, value_in, word};
 use marks::{constant, join, read, sealed};
-use value::Computed;
+use value::{ArithmeticError, Operator};
 
 // The operator at node n, between the values in two words.
 fn operate(parts: &[&[u8]; 3], left: u64, n: usize, right: u64, run: u32) -> u64
     requires { Joins (meaning_in (map (λ x. x.now) parts.now) run) (mark_in left) (mark_in right) × In (nodes_in (map (λ x. x.now) parts.now)) n × Place n }
     ensures { Operated (map (λ x. x.now) parts.now) run n left right result }
 {
-    match value::apply(op_in(parts, n), value_in(left), value_in(right)) {
-        Computed::Is(v) => word(v, join(parts, run, mark_in(left), mark_in(right))),
-        Computed::OutOfRange(_) => stop(numbers::OUT_OF_RANGE, n),
-        Computed::DivisorZero => stop(numbers::DIVISOR_ZERO, n),
+    match Operator::from(op_in(parts, n)).apply(value_in(left), value_in(right)) {
+        Ok(v) => word(v, join(parts, run, mark_in(left), mark_in(right))),
+        Err(ArithmeticError::OutOfRange(_)) => stop(numbers::OUT_OF_RANGE, n),
+        Err(ArithmeticError::DivisorZero) => stop(numbers::DIVISOR_ZERO, n),
     }
 }
 

@@ -4,10 +4,10 @@ use Prim.Native.Nat.{ℕ, zero, suc, ◌+◌, ◌-◌}
 use native.Mathlib.Omega.{arith}
 use mathlib.Core.Path.{◌≡◌, refl, subst, ap}
 use mathlib.Core.Bool.{Bool, true, false}
-use Rattle.value.specs.Values.{operator_of, is_true}
+use Rattle.std.specs.Prelude.{Ok, Err}
+use Rattle.value.specs.Values.{Computed, operator_of, is_true}
 use Rattle.value.specs.declared.Value.{Value}
-use Rattle.value.specs.declared.Computed.{Computed}
-use Rattle.value.specs.declared.Computed.TheVariants.{Is, OutOfRange, DivisorZero}
+use Rattle.value.specs.declared.ArithmeticError.TheVariants.{OutOfRange, DivisorZero}
 use Rattle.levels.specs.Lattice.{Lattice, Laws}
 use Rattle.levels.proofs.Joins.{join_comm}
 use Rattle.sheet.specs.Trees as tree
@@ -38,11 +38,11 @@ unfolding and_then
 then_yields (yields {a} h) k = k a h
 then_yields no_result k = no_result
 
-computed_yields : (place : ℕ) (x : Computed) → Yields (λ v. x ≡ Is v) (at place (computed x))
+computed_yields : (place : ℕ) (x : Computed) → Yields (λ v. x ≡ Ok v) (at place (computed x))
 unfolding at computed
-computed_yields place (Is v) = yields refl
-computed_yields place (OutOfRange z) = no_result
-computed_yields place DivisorZero = no_result
+computed_yields place (Ok v) = yields refl
+computed_yields place (Err (OutOfRange z)) = no_result
+computed_yields place (Err DivisorZero) = no_result
 
 spend_leads : (place fuel : ℕ) {P : Store Mark → Type 0} {next : ℕ → End Mark} → ((left : ℕ) → Leads P (next left)) → Leads P (spend place fuel next)
 unfolding spend

@@ -1,10 +1,9 @@
 -- The published rules: document 002, figure 2 with the assignments of figures 3 and 5, as relations whose constructors bear the paper's rule names,
 -- and document 01's not and seal beside them. The paper's label A is `whole A`, its A* is `partial A`, and pc is the context.
 -- `proofs/Published.antt` proves the statements.
-use Rattle.std.specs.Prelude.{ℕ, ◌≤◌, ◌≡◌, true, false}
+use Rattle.std.specs.Prelude.{ℕ, ◌≤◌, ◌≡◌, true, false, Ok}
 use Rattle.value.specs.Values.{operator_of, not_of, is_true}
 use Rattle.value.specs.declared.Value.{Value}
-use Rattle.value.specs.declared.Computed.TheVariants.{Is}
 use Rattle.levels.specs.Lattice.{Lattice, Laws}
 use Rattle.sheet.specs.Trees as tree
 use Rattle.sheet.specs.Trees.{Exp, constant, field, operator, Cmd, assign, sequence, if_else, while}
@@ -19,7 +18,7 @@ module _ (𝓛 : Lattice) where
   pub data Evaluates (σ : Store Mark) : Exp → Value → Mark → Type 0 where
     const : {n : Value} → Evaluates σ (constant n) n (whole 𝓛.bot)
     var : {x : ℕ} {n : Value} {k : Mark} → σ x ≡ cell n k → Evaluates σ (field x) n k
-    oper : {place op : ℕ} {e' e'' : Exp} {n n' n'' : Value} {k' k'' : Mark} → Evaluates σ e' n' k' → Evaluates σ e'' n'' k'' → operator_of op n' n'' ≡ Is n
+    oper : {place op : ℕ} {e' e'' : Exp} {n n' n'' : Value} {k' k'' : Mark} → Evaluates σ e' n' k' → Evaluates σ e'' n'' k'' → operator_of op n' n'' ≡ Ok n
         → Evaluates σ (operator place op e' e'') n (joined 𝓛 k' k'')
     -- "Not" keeps the mark.
     not : {e : Exp} {n : Value} {k : Mark} → Evaluates σ e n k → Evaluates σ (tree.not e) (not_of n) k

@@ -1,10 +1,9 @@
 -- What a run does: document 01, "Values" and "Marks", and document 002, figures 2, 3 and 5, as a total function over trees. The marks are left
 -- open: `Marking` lists what a run asks about them, and strict and permissive mode are two lists of answers.
-use Rattle.std.specs.Prelude.{ℕ, zero, suc, cond, eqb}
-use Rattle.value.specs.Values.{operator_of, not_of, is_true}
+use Rattle.std.specs.Prelude.{ℕ, zero, suc, cond, eqb, Ok, Err}
+use Rattle.value.specs.Values.{Computed, operator_of, not_of, is_true}
 use Rattle.value.specs.declared.Value.{Value}
-use Rattle.value.specs.declared.Computed.{Computed}
-use Rattle.value.specs.declared.Computed.TheVariants.{Is, OutOfRange, DivisorZero}
+use Rattle.value.specs.declared.ArithmeticError.TheVariants.{OutOfRange, DivisorZero}
 use Rattle.sheet.specs.Trees.{Exp, constant, field, operator, not, seal, Cmd, skip, assign, sequence, if_else, while}
 use Rattle.store.specs.Cells.{Cell, cell, Store}
 use Rattle.rules.specs.Ends.{out_of_range, divisor_zero, Try, fine, fails, Result, gives, End, done, spent, at, and_then, with, choose, spend, bind}
@@ -29,9 +28,9 @@ put i c σ j = cond (eqb i j) c (σ j)
 
 -- an operator's result, or why there is none
 unfoldable pub computed : Computed → Try Value
-computed (Is v) = fine v
-computed (OutOfRange z) = fails out_of_range
-computed DivisorZero = fails divisor_zero
+computed (Ok v) = fine v
+computed (Err (OutOfRange z)) = fails out_of_range
+computed (Err DivisorZero) = fails divisor_zero
 
 module _ {Mark Seen Context : Type 0} (𝓜 : Marking Mark Seen Context) where
   unfoldable pub reading : ℕ → Cell Mark → Cell Seen

@@ -10,10 +10,13 @@ use native.Mathlib.Omega.{arith}
 use borrow.Author.Tests.{ltb-true, ltb-false, leb-true, leb-false, lt-leb, le-leb, lt-ltb}
 use lib.Dec.{ltb, leb, leb-suc-zero, leb-suc-suc}
 use lib.IntN.{ℤ, pos, negsuc, neg_ℤ, nat_abs, sub_ℕ, ◌+ℤ◌, ◌-ℤ◌, ◌*ℤ◌, neg_ℤ-+ℤ, neg_ℤ-neg_ℤ, *ℤ-negsuc, +ℤ_comm, -ℤ-+ℤ_cancel, +ℤ-neg_ℤ_cancel}
-use lib.Signed.{non_neg, le_z}
+use lib.Signed.{non_neg, le_z, nat_abs-le}
+use mir.Syntax.{w32, w64}
+use mir.Val.{SFits}
+use Rattle.std.proofs.lemmas.Int.{ints}
 use Rattle.value.specs.Values.{least, exactly, floor, quot, rest, not_above}
-use Rattle.value.specs.declared.Computed.TheVariants.{Is, OutOfRange}
-use Rattle.value.proofs.Sizes.{size_negated}
+use Rattle.std.specs.Prelude.{Ok, Err}
+use Rattle.value.specs.declared.ArithmeticError.TheVariants.{OutOfRange}
 
 -- ---- the order turned round
 difference_sign : (a b : ℕ) → non_neg (sub_ℕ a b) ≡ leb b a
@@ -103,9 +106,25 @@ rest_below x b =
     ∙ sym (neg_ℤ-+ℤ (neg_ℤ x) (neg_ℤ taken))
     ∙ ap neg_ℤ (rest_above (neg_ℤ x) (omega arith))
 
+size_negated : (x : ℤ) → nat_abs (neg_ℤ x) ≡ nat_abs x
+size_negated (pos zero) = refl
+size_negated (pos (suc n)) = refl
+size_negated (negsuc n) = refl
+
 pub rest_smaller : (x y : ℤ) → 0 < nat_abs y → nat_abs (rest x y) < nat_abs y
 rest_smaller x (pos b) h = rw (rest_above x h) (over_smaller x h)
 rest_smaller x (negsuc b) h = rw (rest_below x b, size_negated (pos (over (neg_ℤ x) (suc b)))) (over_smaller (neg_ℤ x) h)
+
+-- 64 bits hold what the quotient of two values takes away, and what it leaves
+module _ (x y : ℤ) (fx : SFits w32 x) (fy : SFits w32 y) (h : 0 < nat_abs y) where
+  small : nat_abs (rest x y) < 2147483648
+  small = omega (arith, rest_smaller x y h, nat_abs-le y fy.sfits)
+
+  pub rest-fits : SFits w64 (rest x y)
+  rest-fits = omega (arith, ints, small)
+
+  pub taken-fits : SFits w64 (quot x y *ℤ y)
+  taken-fits = omega (arith, ints, small, dividend x y)
 
 pub rest_sign : (x y : ℤ) → 0 < nat_abs y → (rest x y ≡ pos 0) ⊎ (non_neg (rest x y) ≡ non_neg y)
 rest_sign x (pos b) h = inr (ap non_neg (rest_above x h))
@@ -116,6 +135,6 @@ rest_sign x (negsuc b) h = rw (rest_below x b) (go (over (neg_ℤ x) (suc b)))
     go (suc n) = inr refl
 
 -- -2,147,483,648 / -1 is out of range, and its remainder is 0
-pub least_by_minus_one : (exactly (quot least (negsuc 0)) ≡ OutOfRange (pos 2147483648)) × (exactly (rest least (negsuc 0)) ≡ Is (record { n = pos 0 }))
+pub least_by_minus_one : (exactly (quot least (negsuc 0)) ≡ Err (OutOfRange (pos 2147483648))) × (exactly (rest least (negsuc 0)) ≡ Ok (record { n = pos 0 }))
 unfolding exactly
 least_by_minus_one = (refl, refl)

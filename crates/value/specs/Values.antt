@@ -1,10 +1,16 @@
 -- Document 01, "Values": what each operator gives. Numbers are exact integers here, and a result that is no value is refused.
 -- Division is document 02's, "Two". `operator_of` is the whole of it.
-use Rattle.std.specs.Prelude.{ℕ, suc, ◌/◌, Bool, false, not, cond, ◌&&◌, ◌||◌, [], ◌∷◌, eqb, ℤ, pos, negsuc, neg_ℤ, ◌+ℤ◌, ◌-ℤ◌, ◌*ℤ◌, get_or}
+use Rattle.std.specs.Prelude.{ℕ, suc, ◌/◌, Bool, false, not, cond, ◌&&◌, ◌||◌, [], ◌∷◌, eqb, ℤ, pos, negsuc, neg_ℤ, ◌+ℤ◌, ◌-ℤ◌, ◌*ℤ◌, get_or, Result, Ok, Err}
 use Rattle.std.specs.Int.Signed.{lt_z, le_z}
 use Rattle.value.specs.declared.Value.{Value}
-use Rattle.value.specs.declared.Computed.{Computed}
-use Rattle.value.specs.declared.Computed.TheVariants.{Is, OutOfRange, DivisorZero}
+use Rattle.value.specs.declared.ArithmeticError.{ArithmeticError}
+use Rattle.value.specs.declared.ArithmeticError.TheVariants.{OutOfRange, DivisorZero}
+use Rattle.value.specs.declared.Operator.{Operator}
+use Rattle.value.specs.declared.Operator.TheVariants.{Sum, Difference, Product, Quotient, Remainder, Equal, Less, AtMost, And, Or}
+
+-- what an operator gives: a value, or why there is none
+abbrev pub Computed : Type 0
+Computed = Result Value ArithmeticError
 
 -- The least number is -2,147,483,648 and the greatest 2,147,483,647;
 abbrev pub least : ℤ
@@ -15,7 +21,7 @@ greatest = pos 2147483647
 
 -- an exact result outside stops the run.
 unfoldable pub exactly : ℤ → Computed
-exactly z = cond (le_z least z && le_z z greatest) (Is (record { n = z })) (OutOfRange z)
+exactly z = cond (le_z least z && le_z z greatest) (Ok (record { n = z })) (Err (OutOfRange z))
 
 abbrev pub sum_of : Value → Value → Computed
 sum_of x y = exactly (x.n +ℤ y.n)
@@ -55,10 +61,10 @@ eq_z (negsuc a) (negsuc b) = eqb a b
 
 -- 14: divisor 0
 unfoldable pub quotient_of : Value → Value → Computed
-quotient_of x y = cond (eq_z y.n (pos 0)) DivisorZero (exactly (quot x.n y.n))
+quotient_of x y = cond (eq_z y.n (pos 0)) (Err DivisorZero) (exactly (quot x.n y.n))
 
 unfoldable pub remainder_of : Value → Value → Computed
-remainder_of x y = cond (eq_z y.n (pos 0)) DivisorZero (exactly (rest x.n y.n))
+remainder_of x y = cond (eq_z y.n (pos 0)) (Err DivisorZero) (exactly (rest x.n y.n))
 
 -- Equal, less, at most, and, or, not give 1 or 0;
 unfoldable pub truth : Bool → Value
@@ -87,23 +93,25 @@ abbrev pub not_of : Value → Value
 not_of x = truth (not (is_true x))
 
 -- Operators: 0 +, 1 -, 2 *, 3 /, 4 %, 5 equal, 6 less, 7 at most, 8 and, 9 or.
+unfoldable pub operator_numbered : ℕ → Operator
+operator_numbered op = get_or (Sum ∷ Difference ∷ Product ∷ Quotient ∷ Remainder ∷ Equal ∷ Less ∷ AtMost ∷ And ∷ []) op Or
+
+unfoldable pub applied : Operator → Value → Value → Computed
+applied Sum x y = sum_of x y
+applied Difference x y = difference_of x y
+applied Product x y = product_of x y
+applied Quotient x y = quotient_of x y
+applied Remainder x y = remainder_of x y
+applied Equal x y = Ok (equal_of x y)
+applied Less x y = Ok (less_of x y)
+applied AtMost x y = Ok (at_most_of x y)
+applied And x y = Ok (and_of x y)
+applied Or x y = Ok (or_of x y)
+
 unfoldable pub operator_of : ℕ → Value → Value → Computed
-operator_of op x y =
-    get_or
-    (sum_of x y
-    ∷ difference_of x y
-    ∷ product_of x y
-    ∷ quotient_of x y
-    ∷ remainder_of x y
-    ∷ Is (equal_of x y)
-    ∷ Is (less_of x y)
-    ∷ Is (at_most_of x y)
-    ∷ Is (and_of x y)
-    ∷ [])
-    op
-    (Is (or_of x y))
+operator_of op = applied (operator_numbered op)
 
 -- `unfolding operating` opens all of the above, so that an operator on two numbers computes
 unfoldable pub operating : Unit {0}
-unfolding operator_of quotient_of remainder_of exactly truth is_true
+unfolding operator_of operator_numbered applied quotient_of remainder_of exactly truth is_true
 operating = tt

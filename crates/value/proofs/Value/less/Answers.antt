@@ -1,9 +1,0 @@
--- The machine compares what it reads back, and that is the two values.
-use mathlib.Core.Path.{ap, ◌∙◌}
-use lib.Signed.{lt_z}
-use Rattle.value.specs.Values.{truth}
-use Rattle.value.proofs.Wide.{held_both}
-use Rattle.value.proofs.Value.less.Goals as goal
-
-pub returns : goal.returns
-returns c = c.truth.ensures ∙ ap truth (held_both lt_z c.wide.ensures c.wide-2.ensures)
