@@ -6,6 +6,7 @@ pub mod depth;
 ghost use Rattle.std.specs.Prelude.{◌≡◌};
 ghost use Rattle.sheet.specs.Load.{load_of};
 
+use levels::Levels;
 use nodes::uses;
 use sections::verdict::{Verdict, passes};
 
@@ -17,7 +18,7 @@ pub fn load(sheet: &[u8]) -> Verdict
     if !passes(layout) {
         return layout;
     }
-    if !levels::right(sections::levels(sheet)) {
+    if Levels::new(sections::levels(sheet)).is_none() {
         return Verdict::Levels;
     }
     let fields = sections::fields(sheet);

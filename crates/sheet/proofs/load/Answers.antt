@@ -2,7 +2,7 @@
 use Prim.Native.Nat.{ℕ, ◌≤◌, ◌/◌}
 use native.Mathlib.Omega.{arith}
 use mathlib.Core.Path.{◌≡◌, sym, ap, ◌∙◌}
-use mathlib.Core.Bool.{Bool, true}
+use mathlib.Core.Bool.{Bool, true, not}
 use mathlib.Core.List.{List}
 use borrow.Author.Tests.{le-ltb, lt-ltb}
 use lib.Dec.{leb}
@@ -61,20 +61,20 @@ returns-then-not-passes c =
     let is = c.judge_sections-layout.ensures in
     is ∙ layout_told s (ap passes_of (sym is) ∙ sym c.passes.ensures ∙ c.if-not-passes.true)
 
-pub returns-then-not-right : goal.returns-then-not-right
-returns-then-not-right c =
+pub returns-then-is_none : goal.returns-then-is_none
+returns-then-is_none c =
     let s = c.args.sheet.now in
     let layout_passes = layout s c.judge_sections-layout.ensures c.passes.ensures c.if-not-passes.false in
-    let levels_are = levels s c.levels.ensures c.right.ensures in
-    levels-told s layout_passes (levels_are ∙ c.if-not-right.true)
+    let levels_are = levels s c.levels.ensures c.new.ensures.judged ∙ c.is_none.ensures in
+    levels-told s layout_passes (levels_are ∙ ap not c.if-is_none.true)
 
 pub returns-then-not-names_right : goal.returns-then-not-names_right
 returns-then-not-names_right c =
     let s = c.args.sheet.now in
     let layout_passes = layout s c.judge_sections-layout.ensures c.passes.ensures c.if-not-passes.false in
-    let levels_are = levels s c.levels.ensures c.right.ensures in
+    let levels_are = levels s c.levels.ensures c.new.ensures.judged ∙ c.is_none.ensures in
     let names_are = names s c.fields-fields.ensures c.names_right.ensures in
-    names-told s layout_passes (levels_are ∙ c.if-not-right.false) (names_are ∙ c.if-not-names_right.true)
+    names-told s layout_passes (levels_are ∙ ap not c.if-is_none.false) (names_are ∙ c.if-not-names_right.true)
 
 pub judge_nodes-faults-requires : goal.judge_nodes-faults-requires
 judge_nodes-faults-requires c =
@@ -87,16 +87,16 @@ pub returns-then-not-passes-2 : goal.returns-then-not-passes-2
 returns-then-not-passes-2 c =
     let s = c.args.sheet.now in
     let layout_passes = layout s c.judge_sections-layout.ensures c.passes.ensures c.if-not-passes.false in
-    let levels_are = levels s c.levels.ensures c.right.ensures in
+    let levels_are = levels s c.levels.ensures c.new.ensures.judged ∙ c.is_none.ensures in
     let names_are = names s c.fields-fields.ensures c.names_right.ensures in
     let nodes_are = nodes s c.fields-fields.ensures c.constants-constants.ensures c.nodes-nodes.ensures c.judge_nodes-faults.ensures.0 in
     let refuses = ap passes_of (sym nodes_are) ∙ sym c.passes-2.ensures ∙ c.if-not-passes-2.true in
-    nodes_are ∙ nodes-told s layout_passes (levels_are ∙ c.if-not-right.false) (names_are ∙ c.if-not-names_right.false) refuses
+    nodes_are ∙ nodes-told s layout_passes (levels_are ∙ ap not c.if-is_none.false) (names_are ∙ c.if-not-names_right.false) refuses
 
 pub overflow_sub-last : goal.overflow_sub-last
 overflow_sub-last c =
     let s = c.args.sheet.now in
-    let passed = nodes_pass s c.judge_sections-layout.ensures c.passes.ensures c.if-not-passes.false c.levels.ensures c.right.ensures c.if-not-right.false
+    let passed = nodes_pass s c.judge_sections-layout.ensures c.passes.ensures c.if-not-passes.false c.levels.ensures c.new.ensures.judged (c.is_none.ensures ∙ ap not c.if-is_none.false)
     c.fields-fields.ensures c.names_right.ensures c.if-not-names_right.false c.constants-constants.ensures c.nodes-nodes.ensures
     c.judge_nodes-faults.ensures.0 c.passes-2.ensures c.if-not-passes-2.false in
     let last = last_in s passed c.nodes-nodes.ensures in
@@ -105,7 +105,7 @@ overflow_sub-last c =
 pub all_once-requires : goal.all_once-requires
 all_once-requires c =
     let s = c.args.sheet.now in
-    let passed = nodes_pass s c.judge_sections-layout.ensures c.passes.ensures c.if-not-passes.false c.levels.ensures c.right.ensures c.if-not-right.false
+    let passed = nodes_pass s c.judge_sections-layout.ensures c.passes.ensures c.if-not-passes.false c.levels.ensures c.new.ensures.judged (c.is_none.ensures ∙ ap not c.if-is_none.false)
     c.fields-fields.ensures c.names_right.ensures c.if-not-names_right.false c.constants-constants.ensures c.nodes-nodes.ensures
     c.judge_nodes-faults.ensures.0 c.passes-2.ensures c.if-not-passes-2.false in
     let last = last_in s passed c.nodes-nodes.ensures in
@@ -115,7 +115,7 @@ pub returns-then-not-all_once : goal.returns-then-not-all_once
 returns-then-not-all_once c =
     let s = c.args.sheet.now in
     let faultless = sym c.passes-2.ensures ∙ c.if-not-passes-2.false in
-    let passed = nodes_pass s c.judge_sections-layout.ensures c.passes.ensures c.if-not-passes.false c.levels.ensures c.right.ensures c.if-not-right.false
+    let passed = nodes_pass s c.judge_sections-layout.ensures c.passes.ensures c.if-not-passes.false c.levels.ensures c.new.ensures.judged (c.is_none.ensures ∙ ap not c.if-is_none.false)
     c.fields-fields.ensures c.names_right.ensures c.if-not-names_right.false c.constants-constants.ensures c.nodes-nodes.ensures
     c.judge_nodes-faults.ensures.0 c.passes-2.ensures c.if-not-passes-2.false in
     let once = sym (c.all_once.ensures ∙ all-counted (c.judge_nodes-faults.ensures.1 faultless) ∙ ap used_once c.nodes-nodes.ensures) in
@@ -124,7 +124,7 @@ returns-then-not-all_once c =
 pub kind_of-requires : goal.kind_of-requires
 kind_of-requires c =
     let s = c.args.sheet.now in
-    let passed = nodes_pass s c.judge_sections-layout.ensures c.passes.ensures c.if-not-passes.false c.levels.ensures c.right.ensures c.if-not-right.false
+    let passed = nodes_pass s c.judge_sections-layout.ensures c.passes.ensures c.if-not-passes.false c.levels.ensures c.new.ensures.judged (c.is_none.ensures ∙ ap not c.if-is_none.false)
     c.fields-fields.ensures c.names_right.ensures c.if-not-names_right.false c.constants-constants.ensures c.nodes-nodes.ensures
     c.judge_nodes-faults.ensures.0 c.passes-2.ensures c.if-not-passes-2.false in
     let last = last_in s passed c.nodes-nodes.ensures in
@@ -134,7 +134,7 @@ pub returns-then-kind_of-le4 : goal.returns-then-kind_of-le4
 returns-then-kind_of-le4 c =
     let s = c.args.sheet.now in
     let faultless = sym c.passes-2.ensures ∙ c.if-not-passes-2.false in
-    let passed = nodes_pass s c.judge_sections-layout.ensures c.passes.ensures c.if-not-passes.false c.levels.ensures c.right.ensures c.if-not-right.false
+    let passed = nodes_pass s c.judge_sections-layout.ensures c.passes.ensures c.if-not-passes.false c.levels.ensures c.new.ensures.judged (c.is_none.ensures ∙ ap not c.if-is_none.false)
     c.fields-fields.ensures c.names_right.ensures c.if-not-names_right.false c.constants-constants.ensures c.nodes-nodes.ensures
     c.judge_nodes-faults.ensures.0 c.passes-2.ensures c.if-not-passes-2.false in
     let once = sym (c.all_once.ensures ∙ all-counted (c.judge_nodes-faults.ensures.1 faultless) ∙ ap used_once c.nodes-nodes.ensures) in
@@ -144,7 +144,7 @@ returns-then-kind_of-le4 c =
 pub fits-requires : goal.fits-requires
 fits-requires c =
     let s = c.args.sheet.now in
-    let passed = nodes_pass s c.judge_sections-layout.ensures c.passes.ensures c.if-not-passes.false c.levels.ensures c.right.ensures c.if-not-right.false
+    let passed = nodes_pass s c.judge_sections-layout.ensures c.passes.ensures c.if-not-passes.false c.levels.ensures c.new.ensures.judged (c.is_none.ensures ∙ ap not c.if-is_none.false)
     c.fields-fields.ensures c.names_right.ensures c.if-not-names_right.false c.constants-constants.ensures c.nodes-nodes.ensures
     c.judge_nodes-faults.ensures.0 c.passes-2.ensures c.if-not-passes-2.false in
     let last = last_in s passed c.nodes-nodes.ensures in
@@ -154,7 +154,7 @@ pub returns-then-fits : goal.returns-then-fits
 returns-then-fits c =
     let s = c.args.sheet.now in
     let faultless = sym c.passes-2.ensures ∙ c.if-not-passes-2.false in
-    let passed = nodes_pass s c.judge_sections-layout.ensures c.passes.ensures c.if-not-passes.false c.levels.ensures c.right.ensures c.if-not-right.false
+    let passed = nodes_pass s c.judge_sections-layout.ensures c.passes.ensures c.if-not-passes.false c.levels.ensures c.new.ensures.judged (c.is_none.ensures ∙ ap not c.if-is_none.false)
     c.fields-fields.ensures c.names_right.ensures c.if-not-names_right.false c.constants-constants.ensures c.nodes-nodes.ensures
     c.judge_nodes-faults.ensures.0 c.passes-2.ensures c.if-not-passes-2.false in
     let once = sym (c.all_once.ensures ∙ all-counted (c.judge_nodes-faults.ensures.1 faultless) ∙ ap used_once c.nodes-nodes.ensures) in
@@ -167,7 +167,7 @@ pub returns-else-fits : goal.returns-else-fits
 returns-else-fits c =
     let s = c.args.sheet.now in
     let faultless = sym c.passes-2.ensures ∙ c.if-not-passes-2.false in
-    let passed = nodes_pass s c.judge_sections-layout.ensures c.passes.ensures c.if-not-passes.false c.levels.ensures c.right.ensures c.if-not-right.false
+    let passed = nodes_pass s c.judge_sections-layout.ensures c.passes.ensures c.if-not-passes.false c.levels.ensures c.new.ensures.judged (c.is_none.ensures ∙ ap not c.if-is_none.false)
     c.fields-fields.ensures c.names_right.ensures c.if-not-names_right.false c.constants-constants.ensures c.nodes-nodes.ensures
     c.judge_nodes-faults.ensures.0 c.passes-2.ensures c.if-not-passes-2.false in
     let once = sym (c.all_once.ensures ∙ all-counted (c.judge_nodes-faults.ensures.1 faultless) ∙ ap used_once c.nodes-nodes.ensures) in
