@@ -9,6 +9,7 @@ ghost use Rattle.handout.specs.Answers.{answer_entry, answer_length, shown, refu
 ghost use Rattle.handout.specs.Inside.Asks.{Faces, AsksAs, Shows, Answerable, answer_given};
 
 use crate::requests::{count, field_at};
+use levels::Levels;
 use store::{is_partial, level_of, mark_at, value_at};
 use value::Value;
 
@@ -28,7 +29,7 @@ fn at_or_below(rows: &[u8], store: &[u8], i: usize, reader: usize) -> bool
     requires { Faces rows.now store.now i reader }
     ensures { result ≡ (lattice rows.now).le (level_of (mark_of (mark_at store.now i))) reader }
 {
-    levels::at_or_below(rows, level_of(mark_at(store, i)), reader)
+    Levels { rows }.at_or_below(level_of(mark_at(store, i)), reader)
 }
 
 // Whether field i refuses a request: it is partial, at or below the reader.

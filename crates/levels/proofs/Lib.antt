@@ -5,8 +5,8 @@ pub mod Facts
 pub mod Joins
 pub mod Laws
 pub mod Order
+mod Climbing
 mod Judging
 mod Ranges
 mod Rows
-mod Scan
 mod Sets

@@ -79,6 +79,12 @@ module _ (s : List ℕ) where
         row_is _ _ low.level (ones_lt (count s)) (λ l m. low.upper l m ∙ sym (bit_full (count s) l m))
 
     -- a search for the row of level k finds k
-    pub with_row : (row : ℕ) (r : Option ℕ) (k : ℕ) → WithRow s row r → k < count s → row_at s k ≡ row → r ≡ Some k
-    with_row row None k w d e = absurd (w k d e)
-    with_row row (Some j) k w d e = ap Some (row_one j k w.0 d (w.1 ∙ sym e))
+    found : (row : ℕ) (r : Option ℕ) (k : ℕ) → WithRow s row r → k < count s → row_at s k ≡ row → r ≡ Some k
+    found row None k w d e = absurd (w k d e)
+    found row (Some j) k w d e = ap Some (row_one j k w.0 d (w.1 ∙ sym e))
+
+    pub join-found : (i j : ℕ) {r : Option ℕ} → i < count s → j < count s → WithRow s (above_both s i j) r → r ≡ Some (join_of s i j)
+    join-found i j a b w = found _ _ _ w (join_is s h i j a b).level (join_row i j a b)
+
+    pub lowest-found : {r : Option ℕ} → WithRow s (2 ^ count s - 1) r → r ≡ Some (lowest_of s)
+    lowest-found w = found _ _ _ w (lowest_is s h).level lowest_row

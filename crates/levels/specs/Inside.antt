@@ -1,4 +1,3 @@
 -- What only contracts inside the product cite.
 pub mod Climbing
 pub mod Judging
-pub mod Two

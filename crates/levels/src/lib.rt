@@ -3,15 +3,98 @@
 // intersection of both rows, and the lowest level's row has every level.
 #![tactic(auto)]
 
-ghost use Rattle.std.specs.Prelude.{◌≡◌, true, ℕ, ◌-◌, ◌^◌, ◌<◌, ◌≤◌};
+ghost use Rattle.std.specs.Prelude.{◌≡◌, true, ℕ, is_some, IfSome, ◌-◌, ◌^◌, ◌<◌, ◌≤◌};
 ghost use Rattle.levels.specs.Levels.{bit, count, row_at, below, right, join_of, meet_of, lowest_of, highest_of};
-ghost use Rattle.levels.specs.Inside.Climbing.{Climbs, IsSummit};
-ghost use Rattle.levels.specs.Inside.Two.{Two};
+ghost use Rattle.levels.specs.Inside.Climbing.{IsSummit};
 ghost use Rattle.levels.specs.Inside.Judging.{above_both, WithRow, pair_right, level_right};
 
-// Whether the rows are right: number 3 if not. Joins are judged pair by pair; where every two levels have a join, they have a meet too if one
+/// Levels whose rows are right.
+#[derive(Clone, Copy)]
+pub struct Levels<'a> {
+    pub rows: &'a [u8],
+    pub ghost order: { right rows.now ≡ true },
+}
+
+impl<'a> Levels<'a> {
+    /// Judges the rows: number 3 if they are not right.
+    pub fn new(rows: &'a [u8]) -> Option<Self>
+        ensures judged { is_some result ≡ right rows.now }
+        ensures same { IfSome result (λ levels. levels.rows.now ≡ rows.now) }
+    {
+        if right(rows) {
+            Some(Levels { rows })
+        } else {
+            None
+        }
+    }
+
+    /// How many levels there are, 1 to 16.
+    pub fn count(self) -> usize
+        ensures { result ≡ count self.entry.rows.now }
+    {
+        self.rows.len() / 2
+    }
+
+    /// Whether level i lies at or below level j.
+    pub fn at_or_below(self, i: usize, j: usize) -> bool
+        requires { (i < count self.rows.now) × (j < count self.rows.now) }
+        ensures { result ≡ below self.entry.rows.now i j }
+    {
+        has(row(self.rows, i), j)
+    }
+
+    /// The least upper bound of levels i and j.
+    pub fn join(self, i: usize, j: usize) -> usize
+        requires { (i < count self.rows.now) × (j < count self.rows.now) }
+        ensures { (result ≡ join_of self.entry.rows.now i j) × (result < count self.entry.rows.now) }
+    {
+        with_common_row(self.rows, i, j).unwrap()
+    }
+
+    /// The greatest lower bound of levels i and j: from the lowest level on, up to each level that lies at or below both.
+    pub fn meet(self, i: usize, j: usize) -> usize
+        requires { (i < count self.rows.now) × (j < count self.rows.now) }
+        ensures { (result ≡ meet_of self.entry.rows.now i j) × (result < count self.entry.rows.now) }
+    {
+        self.climb(
+            self.lowest(),
+            |k| self.at_or_below(k, i) && self.at_or_below(k, j),
+        )
+    }
+
+    /// BOT: the level whose row has every level.
+    pub fn lowest(self) -> usize
+        ensures { (result ≡ lowest_of self.entry.rows.now) × (result < count self.entry.rows.now) }
+    {
+        with_row(self.rows, full(self.count())).unwrap()
+    }
+
+    /// TOP: from level 0 on, up to each level above.
+    pub fn highest(self) -> usize
+        ensures { (result ≡ highest_of self.entry.rows.now) × (result < count self.entry.rows.now) }
+    {
+        self.climb(0, |_| true)
+    }
+
+    // From a level on, up to each level above it that passes: the highest that passes, if one lies above all that do and above the first.
+    fn climb<F: Fn(usize) -> bool>(self, from: usize, passes: F) -> usize
+        requires level { from < count self.rows.now }
+        requires asks { (k : ℕ) → k < count self.rows.now → F.pre passes k }
+        ensures { (m : ℕ) → IsSummit self.entry.rows.now from (F.post passes) m → result ≡ m }
+    {
+        let mut found = from;
+        for k in 0..self.count() {
+            if self.at_or_below(found, k) && passes(k) {
+                found = k;
+            }
+        }
+        found
+    }
+}
+
+// Whether the rows are right. Joins are judged pair by pair; where every two levels have a join, they have a meet too if one
 // level lies below all.
-pub fn right(rows: &[u8]) -> bool
+fn right(rows: &[u8]) -> bool
     ensures { result ≡ right rows.now }
 {
     let n = rows.len() / 2;
@@ -62,64 +145,6 @@ fn with_row(rows: &[u8], wanted: u32) -> Option<usize>
     ensures { WithRow rows.now wanted result }
 {
     (0..rows.len() / 2).find(|&k| row(rows, k) == wanted)
-}
-
-// Whether level i lies at or below level j.
-pub fn at_or_below(rows: &[u8], i: usize, j: usize) -> bool
-    requires { Two rows.now i j }
-    ensures { result ≡ below rows.now i j }
-{
-    has(row(rows, i), j)
-}
-
-// The least upper bound of levels i and j.
-pub fn join(rows: &[u8], i: usize, j: usize) -> usize
-    requires { Two rows.now i j }
-    ensures { (result ≡ join_of rows.now i j) × (result < count rows.now) }
-{
-    with_common_row(rows, i, j).unwrap()
-}
-
-// The greatest lower bound of levels i and j: from the lowest level on, up to each level that lies at or below both.
-pub fn meet(rows: &[u8], i: usize, j: usize) -> usize
-    requires { Two rows.now i j }
-    ensures { (result ≡ meet_of rows.now i j) × (result < count rows.now) }
-{
-    climb(
-        rows,
-        lowest(rows),
-        |k| at_or_below(rows, k, i) && at_or_below(rows, k, j),
-    )
-}
-
-// BOT: the level whose row has every level.
-pub fn lowest(rows: &[u8]) -> usize
-    requires { right rows.now ≡ true }
-    ensures { (result ≡ lowest_of rows.now) × (result < count rows.now) }
-{
-    with_row(rows, full(rows.len() / 2)).unwrap()
-}
-
-// TOP: from level 0 on, up to each level above.
-pub fn highest(rows: &[u8]) -> usize
-    requires { right rows.now ≡ true }
-    ensures { (result ≡ highest_of rows.now) × (result < count rows.now) }
-{
-    climb(rows, 0, |_| true)
-}
-
-// From a level on, up to each level above it that passes: the highest that passes, if one lies above all that do and above the first.
-fn climb<F: Fn(usize) -> bool>(rows: &[u8], from: usize, passes: F) -> usize
-    requires { Climbs rows.now from (F.pre passes) }
-    ensures { (m : ℕ) → IsSummit rows.now from (F.post passes) m → result ≡ m }
-{
-    let mut found = from;
-    for k in 0..rows.len() / 2 {
-        if at_or_below(rows, found, k) && passes(k) {
-            found = k;
-        }
-    }
-    found
 }
 
 // Row i: the levels at or above level i, a bit each.

@@ -5,6 +5,7 @@ ghost use Rattle.store.specs.Marks.{partial, level_of, mark_of};
 ghost use Rattle.rules.specs.LevelMarks.{joined};
 ghost use Rattle.marks.specs.Inside.Meanings.{TwoMarks, Over, StandsFor};
 
+use levels::Levels;
 use store::{is_partial, level_of, partial_at};
 
 // The join of both levels, partial if either is.
@@ -15,7 +16,7 @@ pub fn join(rows: &[u8], m: u32, k: u32) -> u32
     if m == k {
         return m;
     }
-    let level = levels::join(rows, level_of(m), level_of(k));
+    let level = Levels { rows }.join(level_of(m), level_of(k));
     if is_partial(m) | is_partial(k) {
         return partial_at(level);
     }
@@ -27,7 +28,7 @@ pub fn at_or_below(rows: &[u8], context: u32, old: u32) -> bool
     requires { Over rows.now context old }
     ensures { result ≡ (lattice rows.now).le context (level_of (mark_of old)) }
 {
-    levels::at_or_below(rows, context as usize, level_of(old))
+    Levels { rows }.at_or_below(context as usize, level_of(old))
 }
 
 // The meet of a context and the level of a field with the old mark, partial.
@@ -35,5 +36,5 @@ pub fn lowered(rows: &[u8], context: u32, old: u32) -> u32
     requires { Over rows.now context old }
     ensures { StandsFor rows.now (partial ((lattice rows.now).meet context (level_of (mark_of old)))) result }
 {
-    partial_at(levels::meet(rows, context as usize, level_of(old)))
+    partial_at(Levels { rows }.meet(context as usize, level_of(old)))
 }

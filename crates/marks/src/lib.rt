@@ -13,6 +13,7 @@ ghost use Rattle.marks.specs.Inside.Words.{run_in, context_in};
 ghost use Rattle.marks.specs.Inside.Meanings.{meaning, Constant, Sealed, Read, Joined, Entered, Stored, Joins, Enters, Stores, First};
 
 use basis::numbers;
+use levels::Levels;
 use parts::rows_in;
 use words::{constant_mark, context_in, run_in, run_of, seal_mark, stop, style_in, task};
 
@@ -91,7 +92,8 @@ pub fn first_task(rows: &[u8], mode: u32) -> u64
     requires { (right rows.now ≡ true) × (mode ≤ 1) }
     ensures { First rows.now mode result }
 {
-    let lowest = levels::lowest(rows) as u32;
-    let highest = levels::highest(rows) as u32;
+    let levels = Levels { rows };
+    let lowest = levels.lowest() as u32;
+    let highest = levels.highest() as u32;
     task(run_of(mode, lowest, highest), lowest)
 }

@@ -6,6 +6,7 @@ pub mod depth;
 ghost use Rattle.std.specs.Prelude.{◌≡◌};
 ghost use Rattle.sheet.specs.Load.{load_of};
 
+use levels::Levels;
 use nodes::uses;
 use sections::verdict::SheetError;
 
@@ -14,7 +15,7 @@ pub fn load(sheet: &[u8]) -> Result<(), SheetError>
     ensures { result ≡ load_of sheet.now }
 {
     sections::judge_sections(sheet)?;
-    if !levels::right(sections::levels(sheet)) {
+    if Levels::new(sections::levels(sheet)).is_none() {
         return Err(SheetError::Levels);
     }
     let fields = sections::fields(sheet);

@@ -1,12 +1,6 @@
--- What a climb may rely on, and where it ends.
+-- Where a climb ends.
 use Rattle.std.specs.Prelude.{ℕ, ◌<◌, ◌≡◌, Bool, true, List}
-use Rattle.levels.specs.Levels.{count, below, right}
-
--- a level to climb from, and a test that may be asked of every level
-pub record Climbs (s : List ℕ) (from : ℕ) (Asks : ℕ → Type 0) : Type 0 where
-  pub rows : right s ≡ true
-  pub level : from < count s
-  pub asks : (k : ℕ) → k < count s → Asks k
+use Rattle.levels.specs.Levels.{count, below}
 
 -- m passes, and lies at or above the first level and all that may pass
 pub record IsSummit (s : List ℕ) (from : ℕ) (Answers : ℕ → Bool → Type 0) (m : ℕ) : Type 0 where

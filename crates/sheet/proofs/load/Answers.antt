@@ -1,5 +1,5 @@
 -- Each return has the checks that lead to it, and each check speaks of the sheet's own section.
-use Rattle.std.proofs.Common.{ℕ, ◌≡◌, ◌≤◌, ◌<◌, length, true, refl, sym, ap, ◌∙◌, arith}
+use Rattle.std.proofs.Common.{ℕ, ◌≡◌, ◌≤◌, ◌<◌, length, true, not, refl, sym, ap, ◌∙◌, arith}
 use Rattle.std.proofs.lemmas.Result.{err_from_is_err_and}
 use borrow.Author.Tests.{le-ltb, lt-ltb}
 use lib.Dec.{leb}
@@ -19,7 +19,7 @@ use Rattle.sheet.proofs.load.Goals.{In_ok-judge_nodes, Else-not-all_once, Else-k
 passed : (c : In_ok-judge_nodes) → NodesPass c.args.sheet.now
 passed c = record {
   layout = sym c.in_ok-judge_sections.ensures;
-  levels = rw c.levels.ensures at (sym c.if-not-right.ensures);
+  levels = sym (rw c.levels.ensures at c.new.ensures.judged) ∙ c.is_none.ensures ∙ ap not c.if-is_none.false;
   names = rw c.fields-fields.ensures at (sym c.if-not-names_right.ensures);
   nodes = sym (rw (c.nodes-nodes.ensures, c.constants-constants.ensures, c.fields-fields.ensures) at c.in_ok-judge_nodes.ensures.0);
 }
@@ -47,12 +47,12 @@ returns-in_err-judge_sections c =
     let p = err_from_is_err_and c.from_residual.result c.from_residual.ensures.1 in
     rw (p.1, p.2) (layout_told _ (sym c.in_err-judge_sections.ensures))
 
-pub returns-then-not-right : goal.returns-then-not-right
-returns-then-not-right c = levels-told _ (sym c.in_ok-judge_sections.ensures) (rw c.levels.ensures at (sym c.if-not-right.ensures))
+pub returns-then-is_none : goal.returns-then-is_none
+returns-then-is_none c = levels-told _ (sym c.in_ok-judge_sections.ensures) (sym (rw c.levels.ensures at c.new.ensures.judged) ∙ c.is_none.ensures ∙ ap not c.if-is_none.true)
 
 pub returns-then-not-names_right : goal.returns-then-not-names_right
 returns-then-not-names_right c =
-    names-told _ (sym c.in_ok-judge_sections.ensures) (rw c.levels.ensures at (sym c.if-not-right.ensures)) (rw c.fields-fields.ensures at (sym c.if-not-names_right.ensures))
+    names-told _ (sym c.in_ok-judge_sections.ensures) (sym (rw c.levels.ensures at c.new.ensures.judged) ∙ c.is_none.ensures ∙ ap not c.if-is_none.false) (rw c.fields-fields.ensures at (sym c.if-not-names_right.ensures))
 
 pub judge_nodes-requires : goal.judge_nodes-requires
 judge_nodes-requires c =
@@ -64,7 +64,7 @@ returns-in_err-judge_nodes c =
     let told = sym (rw (c.nodes-nodes.ensures, c.constants-constants.ensures, c.fields-fields.ensures) at c.in_err-judge_nodes.ensures.0) in
     let p = err_from_is_err_and c.from_residual-in_err-judge_nodes.result c.from_residual-in_err-judge_nodes.ensures.1 in
     rw (p.1, p.2)
-    (nodes-told _ (sym c.in_ok-judge_sections.ensures) (rw c.levels.ensures at (sym c.if-not-right.ensures)) (rw c.fields-fields.ensures at (sym c.if-not-names_right.ensures)) told)
+    (nodes-told _ (sym c.in_ok-judge_sections.ensures) (sym (rw c.levels.ensures at c.new.ensures.judged) ∙ c.is_none.ensures ∙ ap not c.if-is_none.false) (rw c.fields-fields.ensures at (sym c.if-not-names_right.ensures)) told)
 
 pub overflow_sub-last : goal.overflow_sub-last
 overflow_sub-last c = (last_in (goal.at.overflow_sub-last c).In_ok-judge_nodes).0

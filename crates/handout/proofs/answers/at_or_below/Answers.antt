@@ -13,7 +13,7 @@ level_of-requires c = rw c.mark_at.ensures.0 (known_is _ _ c.requires.mark).0
 pub at_or_below-requires : goal.at_or_below-requires
 at_or_below-requires c =
     let p = c.requires in
-    record { rows = p.order; first = rw (c.level_of.ensures.0 ∙ ap (λ (m : ℕ). level_of (mark_of m)) c.mark_at.ensures.0) (known_is _ _ p.mark).1; second = p.reader-known }
+    (rw (c.level_of.ensures.0 ∙ ap (λ (m : ℕ). level_of (mark_of m)) c.mark_at.ensures.0) (known_is _ _ p.mark).1, p.reader-known)
 
 pub returns : goal.returns
 returns c =

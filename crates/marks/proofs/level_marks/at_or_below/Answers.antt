@@ -10,7 +10,7 @@ level_of-requires c = (known_is _ _ c.requires.mark).0
 pub at_or_below-requires : goal.at_or_below-requires
 at_or_below-requires c =
     let p = c.requires in
-    record { rows = p.order; first = p.context-known; second = rw c.level_of.ensures.0 (known_is _ _ p.mark).1 }
+    (p.context-known, rw c.level_of.ensures.0 (known_is _ _ p.mark).1)
 
 pub returns : goal.returns
 returns c =

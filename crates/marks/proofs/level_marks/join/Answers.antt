@@ -27,11 +27,7 @@ level_of-requires-2 c = (known_is _ _ c.requires.second).0
 
 pub join-level-requires : goal.join-level-requires
 join-level-requires c =
-    record {
-      rows = c.requires.order;
-      first = rw c.level_of.ensures.0 (known_is _ _ c.requires.first).1;
-      second = rw c.level_of-2.ensures.0 (known_is _ _ c.requires.second).1;
-    }
+    (rw c.level_of.ensures.0 (known_is _ _ c.requires.first).1, rw c.level_of-2.ensures.0 (known_is _ _ c.requires.second).1)
 
 -- the level's number is below 16
 level_few : (rows : List ℕ) {level : ℕ} → right rows ≡ true → level < count rows → level < 16

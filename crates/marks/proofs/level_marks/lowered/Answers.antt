@@ -20,7 +20,7 @@ level_of-requires c = (known_is _ _ c.requires.mark).0
 pub meet-requires : goal.meet-requires
 meet-requires c =
     let p = c.requires in
-    record { rows = p.order; first = p.context-known; second = rw c.level_of.ensures.0 (known_is _ _ p.mark).1 }
+    (p.context-known, rw c.level_of.ensures.0 (known_is _ _ p.mark).1)
 
 pub partial_at-requires : goal.partial_at-requires
 partial_at-requires c = omega (arith, c.meet.ensures.1, (facts c.args.rows.now c.requires.order).few)

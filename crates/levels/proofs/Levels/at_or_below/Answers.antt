@@ -2,10 +2,10 @@
 use native.Mathlib.Omega.{arith}
 use Rattle.levels.specs.Levels.{below}
 use Rattle.levels.proofs.Facts.{facts}
-use Rattle.levels.proofs.at_or_below.Goals as goal
+use Rattle.levels.proofs.Levels.at_or_below.Goals as goal
 
 pub has-requires : goal.has-requires
-has-requires c = omega (arith, (facts c.args.rows.now c.requires.rows).few)
+has-requires c = omega (arith, (facts c.args.self.rows.now c.args.self.order).few)
 
 pub returns : goal.returns
 unfolding below

@@ -2,11 +2,11 @@
 use Prim.Native.Nat.{ℕ, ◌<◌}
 use Rattle.levels.specs.Levels.{count}
 use Rattle.levels.specs.Inside.Climbing.{IsSummit}
-use Rattle.levels.proofs.Scan.{Found}
-use Rattle.levels.proofs.climb.Given as goal
+use Rattle.levels.proofs.Climbing.{Found}
+use Rattle.levels.proofs.Levels.climb.Given as goal
 
 abbrev pub invariant-loop-k : goal.invariant-loop-k
 invariant-loop-k g l = record {
-  level : l.found < count l.rows;
-  under : (m : ℕ) → IsSummit l.rows l.from (goal.F-post g l.passes) m → Found l.rows m l.k l.found;
+  level : l.found < count l.self.rows.now;
+  under : (m : ℕ) → IsSummit l.self.rows.now l.from (goal.F-post g l.passes) m → Found l.self.rows.now m l.k l.found;
 }
