@@ -8,7 +8,8 @@ ghost use Rattle.beltuqash.specs.Inside.Given.{Taken};
 
 use basis::answer::{Answer, refusal, success};
 use basis::numbers;
-use handout::{answers, requests};
+use handout::answers::HandOut;
+use handout::requests::Request;
 use sections::verdict;
 
 // A hand-out takes any mark that the sheet knows, as a permissive run does.
@@ -88,16 +89,24 @@ fn judge_request(sheet: &[u8], store: &[u8], reader: u32, request: &[u8], room: 
     ensures { result ≡ tells (request_checks sheet.now store.now reader request.now room) }
 {
     let rows = sections::levels(sheet);
-    let known = (reader as usize) < rows.len() / 2;
-    if !(known & requests::right(request, sections::fields(sheet).len() / 8)) {
+    let reader = reader as usize;
+    let Some(request) = Request::new(request, sections::fields(sheet).len() / 8) else {
+        return refusal(numbers::READER_OR_REQUEST, 0);
+    };
+    if rows.len() / 2 <= reader {
         return refusal(numbers::READER_OR_REQUEST, 0);
     }
-    if room < answers::length(request) {
+    let hand_out = HandOut {
+        rows,
+        store,
+        reader,
+        request,
+    };
+    if room < hand_out.length() {
         return refusal(numbers::OUT_SHORT, 0);
     }
-    let first = answers::first_refusing(rows, store, reader as usize, request);
-    if first < requests::count(request) {
-        return refusal(numbers::PARTIAL_ASKED, first as u16);
+    match hand_out.first_refusing() {
+        Some(position) => refusal(numbers::PARTIAL_ASKED, position as u16),
+        None => success(0),
     }
-    success(0)
 }
