@@ -1,5 +1,5 @@
 -- The lists of checks: no check tells number 0, and what a sheet, a store and a request have where all hold.
-use Prim.Native.Nat.{ℕ, ◌≤◌}
+use Prim.Native.Nat.{ℕ, ◌≤◌, ◌<◌}
 use native.Mathlib.Omega.{arith}
 use mathlib.Core.Path.{◌≡◌, refl, sym, ap}
 use mathlib.Core.Bool.{Bool, true, false, ◌&&◌}
@@ -132,13 +132,11 @@ pub fits-long : (fields : ℕ) (store : List ℕ) → store_fits fields store �
 unfolding store_fits
 fits-long fields store e = eqb-true _ _ (both _ _ e).0
 
--- a request that hand-out's functions take
-pub asks_as : {sheet store : List ℕ} {reader : ℕ} {request : List ℕ} → Requested sheet store reader request → AsksAs (levels_of sheet) store reader request
-asks_as {sheet} given = record {
-  fields = field_count sheet;
-  long = fits-long _ _ given.taken.fits;
-  right_request = given.right_request;
-  order = given.taken.loaded.levels;
-  reader-known = given.reader-known;
-  marks = given.taken.marks;
+-- a reader and a store that hand-out's functions take
+pub asks_as : {sheet store : List ℕ} {reader : ℕ} → Taken sheet store permissive → reader < count (levels_of sheet) → AsksAs (levels_of sheet) store (field_count sheet) reader
+asks_as taken known = record {
+  long = fits-long _ _ taken.fits;
+  order = taken.loaded.levels;
+  reader-known = known;
+  marks = taken.marks;
 }

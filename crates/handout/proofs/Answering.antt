@@ -12,26 +12,12 @@ use Rattle.value.specs.Bytes.{bytes_of}
 use Rattle.value.specs.declared.Value.{Value}
 use Rattle.levels.specs.Lattice.{Lattice}
 use Rattle.store.specs.Cells.{Cell, cell, Store}
-use Rattle.store.specs.Marks.{Mark, whole, partial, level_of, is_partial, mark_of, permissive}
+use Rattle.store.specs.Marks.{Mark, whole, partial, level_of, is_partial, mark_of}
 use Rattle.store.specs.Stores.{mark_at, cell_at, store_of}
-use Rattle.store.proofs.Marks.{is_whole, is_partial_lem, marks-known}
+use Rattle.store.proofs.Marks.{is_whole, is_partial_lem}
 use Rattle.handout.specs.Requests.{asked_count, field_asked}
 use Rattle.handout.specs.Answers.{answer_entry, shown, all_shown, refuses, refuses_at, first_refusing}
-use Rattle.handout.specs.Inside.Asks.{Faces, AsksAs}
-use Rattle.handout.proofs.Requesting.{right_has}
 use Rattle.handout.proofs.Alike.{shown_elsewhere}
-
--- a field asked for faces the reader
-pub faces : {rows store : List ℕ} {reader : ℕ} {request : List ℕ} → AsksAs rows store reader request → (position i : ℕ) → position < asked_count request
-    → i ≡ field_asked request position → Faces rows store i reader
-faces given position i asked is =
-    let known = (right_has _ _ given.right_request).known position asked in
-    record {
-      order = given.order;
-      reader-known = given.reader-known;
-      inside = omega (arith, given.long);
-      mark = marks-known permissive _ _ _ given.marks i (omega arith);
-    }
 
 module _ (𝓛 : Lattice) (reader : ℕ) where
   -- ── a field ───────────────────────────────────────────────────────────────────────────────

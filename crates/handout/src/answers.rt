@@ -1,103 +1,89 @@
 // What a request gets from a store: the first field that refuses all of it, or else the answer, written.
-ghost use Rattle.std.specs.Prelude.{◌≡◌, false, ◌∷◌, ◌+◌, ◌≤◌, length};
-ghost use Rattle.std.proofs.lemmas.List.Edits.{sets};
-ghost use Rattle.value.specs.Bytes.{bytes_of};
+ghost use Rattle.std.specs.Prelude.{◌≡◌, false, ◌+◌, ◌≤◌, ◌<◌, length, MatchOption};
 ghost use Rattle.levels.specs.Lattice.{lattice};
 ghost use Rattle.store.specs.Marks.{level_of, mark_of};
 ghost use Rattle.store.specs.Stores.{mark_at, store_of};
-ghost use Rattle.handout.specs.Answers.{answer_entry, answer_length, shown, refuses, first_refusing};
-ghost use Rattle.handout.specs.Inside.Asks.{Faces, AsksAs, Shows, Answerable, answer_given};
+ghost use Rattle.handout.specs.Requests.{asked_count};
+ghost use Rattle.handout.specs.Answers.{answer_length, shown, refuses, first_refusing};
+ghost use Rattle.handout.specs.Inside.Asks.{AsksAs, answer_given};
 
-use crate::requests::{count, field_at};
+use crate::requests::Request;
 use levels::Levels;
 use store::{is_partial, level_of, mark_at, value_at};
-use value::Value;
 
 // The bytes of an answer's entry: shown or not, then the value.
 const ENTRY: usize = 5;
 
-// How long the answer to a right request is.
-pub fn length(request: &[u8]) -> usize
-    requires { 2 ≤ length request.now }
-    ensures { result ≡ answer_length request.now }
-{
-    2 + count(request) * ENTRY
+/// A request of a reader's at one of the levels, and the store that it is made to, with as many fields and marks that the levels know.
+#[derive(Clone, Copy)]
+pub struct HandOut<'a> {
+    pub levels: Levels<'a>,
+    pub store: &'a [u8],
+    pub reader: usize,
+    pub request: Request<'a>,
+    pub ghost asks: { AsksAs levels.rows.now store.now request.fields reader },
 }
 
-// Whether the level of field i lies at or below the reader.
-fn at_or_below(rows: &[u8], store: &[u8], i: usize, reader: usize) -> bool
-    requires { Faces rows.now store.now i reader }
-    ensures { result ≡ (lattice rows.now).le (level_of (mark_of (mark_at store.now i))) reader }
-{
-    Levels { rows }.at_or_below(level_of(mark_at(store, i)), reader)
-}
-
-// Whether field i refuses a request: it is partial, at or below the reader.
-fn refuses(rows: &[u8], store: &[u8], i: usize, reader: usize) -> bool
-    requires { Faces rows.now store.now i reader }
-    ensures { result ≡ refuses (lattice rows.now) reader (store_of store.now i) }
-{
-    if !is_partial(mark_at(store, i)) {
-        return false;
+impl<'a> HandOut<'a> {
+    /// How long the answer is.
+    pub fn length(&self) -> usize
+        ensures { result ≡ answer_length self.now.request.bytes.now }
+    {
+        2 + self.request.count() * ENTRY
     }
-    at_or_below(rows, store, i, reader)
-}
 
-// The first position that asks for a field that refuses, or the count if none does.
-pub fn first_refusing(rows: &[u8], store: &[u8], reader: usize, request: &[u8]) -> usize
-    requires { AsksAs rows.now store.now reader request.now }
-    ensures { result ≡ first_refusing (lattice rows.now) reader (store_of store.now) request.now }
-{
-    let asked = count(request);
-    let mut position = 0;
-    while position < asked {
-        if refuses(rows, store, field_at(request, position), reader) {
-            return position;
+    // Whether a field's level lies at or below the reader.
+    fn at_or_below(&self, field: usize) -> bool
+        requires { field < self.now.request.fields }
+        ensures { result ≡ (lattice self.now.levels.rows.now).le (level_of (mark_of (mark_at self.now.store.now field))) self.now.reader }
+    {
+        self.levels.at_or_below(level_of(mark_at(self.store, field)), self.reader)
+    }
+
+    // Whether a field refuses the request: it is partial, at or below the reader.
+    fn refuses(&self, field: usize) -> bool
+        requires { field < self.now.request.fields }
+        ensures { result ≡ refuses (lattice self.now.levels.rows.now) self.now.reader (store_of self.now.store.now field) }
+    {
+        is_partial(mark_at(self.store, field)) && self.at_or_below(field)
+    }
+
+    /// The first position that asks for a field that refuses.
+    pub fn first_refusing(&self) -> Option<usize>
+        ensures { let count = asked_count self.now.request.bytes.now in
+            let first = first_refusing (lattice self.now.levels.rows.now) self.now.reader (store_of self.now.store.now) self.now.request.bytes.now in
+            MatchOption result (first ≡ count) (λ position. (first ≡ position) × (position < count)) }
+    {
+        (0..self.request.count()).find(|&position| self.refuses(self.request.field(position)))
+    }
+
+    // The entry of a field that does not refuse: 1 and the value if its level lies at or below the reader, else 0 and value 0.
+    fn entry(&self, field: usize) -> [u8; ENTRY]
+        requires known { field < self.now.request.fields }
+        requires passes { refuses (lattice self.now.levels.rows.now) self.now.reader (store_of self.now.store.now field) ≡ false }
+        ensures { result ≡ shown (lattice self.now.levels.rows.now) self.now.reader (store_of self.now.store.now field) }
+    {
+        if self.at_or_below(field) {
+            let [b0, b1, b2, b3] = value_at(self.store, field).to_bytes();
+            [1, b0, b1, b2, b3]
+        } else {
+            [0; ENTRY]
         }
-        position += 1;
     }
-    asked
-}
 
-// Writes an answer's entry, a byte and a value, at an offset.
-fn put_entry(out: &mut [u8], at: usize, byte: u8, v: Value)
-    requires { at + answer_entry ≤ length out.old }
-    ensures { out.new ≡ sets out.old at (byte ∷ bytes_of v.n) }
-{
-    out[at] = byte;
-    v.write(out, at + 1);
-}
-
-// Writes the entry of field i, which does not refuse: 1 and the value if its level lies at or below the reader, else 0 and value 0.
-fn show(out: &mut [u8], at: usize, rows: &[u8], store: &[u8], i: usize, reader: usize)
-    requires { (at + answer_entry ≤ length out.old) × Shows rows.now store.now i reader }
-    ensures { out.new ≡ sets out.old at (shown (lattice rows.now) reader (store_of store.now i)) }
-{
-    if at_or_below(rows, store, i, reader) {
-        put_entry(out, at, 1, value_at(store, i));
-    } else {
-        put_entry(out, at, 0, Value::of_bits(0));
-    }
-}
-
-// Writes the answer to a request that no field refuses to the front of `out`.
-pub fn give(rows: &[u8], store: &[u8], reader: usize, request: &[u8], out: &mut [u8])
-    requires { Answerable rows.now store.now reader request.now out.old }
-    ensures { out.new ≡ answer_given rows.now store.now reader request.now out.old }
-{
-    let asked = count(request);
-    out[0] = (asked % 256) as u8;
-    out[1] = 0;
-    let mut i = 0;
-    while i < asked {
-        show(
-            out,
-            2 + i * ENTRY,
-            rows,
-            store,
-            field_at(request, i),
-            reader,
-        );
-        i += 1;
+    /// Writes the answer to a request that no field refuses to the front of `out`.
+    pub fn give(&self, out: &mut [u8])
+        requires none_refuses { asked_count self.now.request.bytes.now ≤ first_refusing (lattice self.now.levels.rows.now) self.now.reader (store_of self.now.store.now) self.now.request.bytes.now }
+        requires room { answer_length self.now.request.bytes.now ≤ length out.old }
+        ensures { out.new ≡ answer_given self.now.levels.rows.now self.now.store.now self.now.reader self.now.request.bytes.now out.old }
+    {
+        let count = self.request.count();
+        out[0] = count as u8;
+        out[1] = 0;
+        for position in 0..count {
+            let at = 2 + position * ENTRY;
+            let field = self.request.field(position);
+            out[at..at + ENTRY].copy_from_slice(&self.entry(field));
+        }
     }
 }

@@ -100,12 +100,19 @@ impl Value {
         Value { n }
     }
 
+    /// Its four bytes, lowest first.
+    pub fn to_bytes(self) -> [u8; 4]
+        ensures { result ≡ bytes_of self.n }
+    {
+        self.n.to_le_bytes()
+    }
+
     /// Writes its four bytes at an offset, lowest first.
     pub fn write(self, out: &mut [u8], at: usize)
         requires { at + 4 ≤ length out.old }
         ensures { out.new ≡ sets out.old at (bytes_of self.n) }
     {
-        out[at..at + 4].copy_from_slice(&self.n.to_le_bytes());
+        out[at..at + 4].copy_from_slice(&self.to_bytes());
     }
 
     // The quotient rounded down: x / y is -x / -y.
