@@ -16,27 +16,24 @@ pub record Found (s : List ℕ) (m k found : ℕ) : Type 0 where
   pub under : below s found m ≡ true
   pub passed : m < k → found ≡ m
 
-module _ (s : List ℕ) (h : right s ≡ true) (from : ℕ) (Answers : ℕ → Bool → Type 0) (m : ℕ) (g : IsSummit s from Answers m) where
-  pub at_first : Found s m 0 from
-  at_first = record { under = g.above_first; passed = λ p. absurd (omega arith) }
+module _ (s : List ℕ) (h : right s ≡ true) (from : ℕ) (Answers : ℕ → Bool → Type 0) (m : ℕ) (g : IsSummit s from Answers m) (k found : ℕ) (f : Found s m k found) where
+  -- k passes and lies above the one found
+  pub goes_up : k < count s → below s found k ≡ true → Answers k true → Found s m (k + 1) k
+  goes_up d up e = let under = g.above_each k d e in record {
+    under = under;
+    passed = λ p. elim (ℕ_discrete k m) [ yes q ↦ q | no q ↦ (facts s h).up.one k m d g.level under (rw (f.passed (omega arith)) at up) ];
+  }
 
-  module _ (k found : ℕ) (f : Found s m k found) where
-    pub goes_up : k < count s → below s found k ≡ true → Answers k true → Found s m (k + 1) k
-    goes_up d up e = let under = g.above_each k d e in record {
-      under = under;
-      passed = λ p. elim (ℕ_discrete k m) [ yes q ↦ q | no q ↦ (facts s h).up.one k m d g.level under (rw (f.passed (omega arith)) at up) ];
-    }
+  stays : (k ≡ m → ⊥) → Found s m (k + 1) found
+  stays other = record { under = f.under; passed = λ p. elim (ℕ_discrete k m) [ yes q ↦ absurd (other q) | no q ↦ f.passed (omega arith) ] }
 
-    stays : (k ≡ m → ⊥) → Found s m (k + 1) found
-    stays other = record { under = f.under; passed = λ p. elim (ℕ_discrete k m) [ yes q ↦ absurd (other q) | no q ↦ f.passed (omega arith) ] }
+  -- k does not lie above the one found
+  pub stays-beside : below s found k ≡ false → Found s m (k + 1) found
+  stays-beside e = stays (λ q. true≢false (sym f.under ∙ rw q at e))
 
-    -- k does not lie above the one found
-    pub stays-beside : below s found k ≡ false → Found s m (k + 1) found
-    stays-beside e = stays (λ q. true≢false (sym f.under ∙ rw q at e))
-
-    -- k does not pass
-    pub stays-unpassed : Answers k false → Found s m (k + 1) found
-    stays-unpassed e = stays (λ q. true≢false (sym (g.passes false (subst (λ i. Answers i false) q e))))
+  -- k does not pass
+  pub stays-unpassed : Answers k false → Found s m (k + 1) found
+  stays-unpassed e = stays (λ q. true≢false (sym (g.passes false (subst (λ i. Answers i false) q e))))
 
 module _ (s : List ℕ) (h : right s ≡ true) (Answers : ℕ → Bool → Type 0) where
   -- every level passes

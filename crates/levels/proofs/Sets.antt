@@ -1,13 +1,12 @@
 -- A row is a set of levels as a number: bit j says whether j is in it. What is in an intersection; sets with the same members are one; the set of
 -- all numbers below n.
-use Prim.Native.Nat.{ℕ, zero, suc, ◌-◌, ◌^◌, ◌<◌}
+use Prim.Native.Nat.{ℕ, zero, suc, ◌-◌, ◌^◌, ◌<◌, min}
 use native.Mathlib.Omega.{arith}
 use borrow.Author.Tests.{eqb-true, eqb-false, eq-eqb}
 use mathlib.Core.Path.{◌≡◌, refl, ap, sym, ◌∙◌}
 use mathlib.Core.Bool.{◌&&◌, true}
 use lib.Dec.{eqb}
 use lib.Bits.{bit_and}
-use Prim.Native.Nat.{min}
 use Rattle.std.specs.Int.{bit_at}
 use Rattle.std.proofs.lemmas.Nat.Bits.{bit_at_and, bit_at-lt, bit_at_ones, same_from_bits_below}
 use Rattle.basis.proofs.Tests.{split}

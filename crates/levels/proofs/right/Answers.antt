@@ -22,7 +22,8 @@ returns-then-all c =
       | then-contains w ↦
           let limits : (0 < count s) × (count s ≤ 16) = search (rules, tests) in
           let asked : w.all.result ≡ all (count s) (level_right s) = range-all _ _ _ refl w.all.ensures.ran (λ j b q h. search (rules, tests)) in
-          c.is_some.ensures ∙ is_some_row s _ _ c.with_row.ensures ∙ rw c.full.ensures (judged s limits.0 limits.1 (all-at _ _ (sym asked ∙ sym w.value-is ∙ c.if-all.true)))
+          c.is_some.ensures ∙ is_some_row s _ _ c.with_row.ensures
+          ∙ rw c.full.ensures (judged s limits.0 limits.1 (all-at _ _ (sym asked ∙ sym w.value-is ∙ c.if-all.true)))
       | else-contains w ↦ absurd (true≢false (sym c.if-all.true ∙ w.value-is ∙ w.if-contains.false))
     ]
 
