@@ -12,7 +12,8 @@ use Rattle.value.specs.Bytes.{bytes_of}
 use Rattle.value.specs.declared.Value.{Value}
 use Rattle.levels.specs.Lattice.{Lattice}
 use Rattle.store.specs.Cells.{Cell, cell, Store}
-use Rattle.store.specs.Marks.{Mark, whole, partial, level_of, is_partial, mark_of, permissive}
+use Rattle.store.specs.declared.Mode.TheVariants.{Permissive}
+use Rattle.store.specs.Marks.{Mark, whole, partial, level_of, is_partial, mark_of}
 use Rattle.store.specs.Stores.{mark_at, cell_at, store_of}
 use Rattle.store.proofs.Marks.{is_whole, is_partial_lem, marks-known}
 use Rattle.handout.specs.Requests.{asked_count, field_asked}
@@ -30,7 +31,7 @@ faces given position i asked is =
       order = given.order;
       reader-known = given.reader-known;
       inside = omega (arith, given.long);
-      mark = marks-known permissive _ _ _ given.marks i (omega arith);
+      mark = marks-known Permissive _ _ _ given.marks i (omega arith);
     }
 
 module _ (𝓛 : Lattice) (reader : ℕ) where

@@ -2,7 +2,8 @@
 use Rattle.std.specs.Prelude.{ℕ, ◌+◌, ◌≤◌, ◌<◌, ◌≡◌, true, false, List, length}
 use Rattle.levels.specs.Levels.{count, right}
 use Rattle.levels.specs.Lattice.{lattice}
-use Rattle.store.specs.Marks.{permissive, mark_known}
+use Rattle.store.specs.declared.Mode.TheVariants.{Permissive}
+use Rattle.store.specs.Marks.{mark_known}
 use Rattle.store.specs.Stores.{store_length, mark_at, store_of, marks_right}
 use Rattle.handout.specs.Requests.{asked_count, request_right}
 use Rattle.handout.specs.Answers.{answer_length, answer_over, refuses, first_refusing}
@@ -26,7 +27,7 @@ pub record AsksAs (rows store : List ℕ) (reader : ℕ) (request : List ℕ) : 
   pub right_request : request_right fields request ≡ true
   pub order : right rows ≡ true
   pub reader-known : reader < count rows
-  pub marks : marks_right permissive (count rows) fields store ≡ true
+  pub marks : marks_right Permissive (count rows) fields store ≡ true
 
 -- that no field refuses, with room for the answer
 pub record Answerable (rows store : List ℕ) (reader : ℕ) (request answer : List ℕ) : Type 0 where

@@ -16,7 +16,6 @@ use Rattle.sheet.specs.Load.{field_count}
 use Rattle.handout.specs.Requests.{asked_count, request_right}
 use Rattle.handout.specs.Answers.{answer_length}
 use Rattle.handout.proofs.Requesting.{right_has}
-use Rattle.store.specs.Marks.{mode_of}
 use Rattle.beltuqash.specs.Calls.{refused_position}
 use Rattle.beltuqash.proofs.Checking.{requested, asks_as}
 use Rattle.beltuqash.proofs.checks.judge_request.Goals as goal
@@ -34,7 +33,6 @@ returns-then-not-known-right c =
     rw (asked_as a.sheet.now a.request.now a.reader c.levels-rows.ensures c.fields.ensures c.right.ensures ∙ c.if-not-known-right.true) c.refusal.ensures
 
 pub length-requires : goal.length-requires
-unfolding mode_of
 length-requires c =
     let a = c.args in
     let asked = asked_as a.sheet.now a.request.now a.reader c.levels-rows.ensures c.fields.ensures c.right.ensures ∙ c.if-not-known-right.false in
@@ -50,7 +48,6 @@ returns-then-room-length c =
     rw (asked, short) c.refusal-then-room-length.ensures
 
 pub first_refusing-first-requires : goal.first_refusing-first-requires
-unfolding mode_of
 first_refusing-first-requires c =
     let a = c.args in
     let asked = asked_as a.sheet.now a.request.now a.reader c.levels-rows.ensures c.fields.ensures c.right.ensures ∙ c.if-not-known-right.false in
@@ -58,7 +55,6 @@ first_refusing-first-requires c =
     rw c.levels-rows.ensures (asks_as given)
 
 pub count-requires : goal.count-requires
-unfolding mode_of
 count-requires c =
     let a = c.args in
     let asked = asked_as a.sheet.now a.request.now a.reader c.levels-rows.ensures c.fields.ensures c.right.ensures ∙ c.if-not-known-right.false in
