@@ -21,7 +21,9 @@ use Rattle.sections.proofs.Parts.{entries-length}
 use Rattle.sheet.specs.Load.{field_count, load_of}
 use Rattle.sheet.specs.Inside.Loaded.{Loaded}
 use Rattle.sheet.proofs.Loading.{loaded}
-use Rattle.store.specs.Marks.{Mode, permissive, mode_of}
+use Rattle.store.specs.declared.Mode.{Mode}
+use Rattle.store.specs.declared.Mode.TheVariants.{Permissive}
+use Rattle.store.specs.Marks.{mode_of}
 use Rattle.store.specs.Stores.{store_length, store_fits, marks_right}
 use Rattle.handout.specs.Requests.{asked_count, request_right}
 use Rattle.handout.specs.Answers.{answer_length}
@@ -92,7 +94,7 @@ module _ (sheet : List ℕ) where
 
   -- a reader and a request that are right
   module _ (store : List ℕ) (reader : ℕ) (request : List ℕ) where
-    pub requested : Taken sheet store permissive → (ltb reader (count (levels_of sheet)) && request_right (field_count sheet) request) ≡ true → Requested sheet store reader request
+    pub requested : Taken sheet store Permissive → (ltb reader (count (levels_of sheet)) && request_right (field_count sheet) request) ≡ true → Requested sheet store reader request
     requested taken h = let (known, right) = both (ltb reader _) _ h in record { taken = taken; reader-known = ltb-true _ _ known; right_request = right }
 
     -- with room for the answer, and no field that refuses
@@ -100,10 +102,10 @@ module _ (sheet : List ℕ) where
         → Requested sheet store reader request × (answer_length request ≤ room) × (asked_count request ≤ refused_position sheet store reader request)
     unfolding all_hold
     hand_out_holds room h =
-        let (taken, rest) = append-all (request_checks sheet store reader request room) (sheet_checks sheet ++ store_checks sheet store permissive) h in
+        let (taken, rest) = append-all (request_checks sheet store reader request room) (sheet_checks sheet ++ store_checks sheet store Permissive) h in
         let (asked, last) = both _ _ rest in
         let (long, none) = both _ _ last in
-        (requested (both_hold store permissive taken) asked, leb-true _ _ long, leb-true _ _ (both _ _ none).0)
+        (requested (both_hold store Permissive taken) asked, leb-true _ _ long, leb-true _ _ (both _ _ none).0)
 
 -- ── what a sheet and a store have ───────────────────────────────────────────────────────────
 

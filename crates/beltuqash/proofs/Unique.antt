@@ -22,7 +22,8 @@ use Rattle.sections.specs.declared.verdict.Fault.TheVariants.{Unknown, Unused, R
 use Rattle.sections.specs.declared.verdict.SheetError.TheVariants.{Length, Count, Levels, Name, Node, Uses, Depth}
 use Rattle.sheet.specs.Load.{field_count, last_of, load_of}
 use Rattle.sheet.proofs.Loading.{load-placed}
-use Rattle.store.specs.Marks.{Mark, permissive, mode_of}
+use Rattle.store.specs.declared.Mode.TheVariants.{Permissive}
+use Rattle.store.specs.Marks.{Mark, mode_of}
 use Rattle.store.specs.Stores.{store_of}
 use Rattle.rules.specs.Ends.{stop_number, Why, out_of_range, divisor_zero, not_below, partial_test, End}
 use Rattle.rules.specs.LevelMarks.{marking}
@@ -175,7 +176,7 @@ module _ (sheet store : List ℕ) (reader : ℕ) (request out : List ℕ) where
   pub hand_out_within : Within 0 (hand_out sheet store reader request out).answer
   unfolding hand_out answered
   hand_out_within =
-      let before = sheet_checks sheet ++ store_checks sheet store permissive in
+      let before = sheet_checks sheet ++ store_checks sheet store Permissive in
       let requests = request_checks sheet store reader request (length out) in
       call_within 0 (before ++ requests) out _
       (λ _. split (all_hold before)

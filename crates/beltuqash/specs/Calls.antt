@@ -10,7 +10,9 @@ use Rattle.levels.specs.Lattice.{lattice}
 use Rattle.sections.specs.Verdict.{verdict_number, verdict_place}
 use Rattle.sections.specs.Sections.{levels_of}
 use Rattle.sheet.specs.Load.{field_count, program_of, load_of, judging}
-use Rattle.store.specs.Marks.{Mark, mark_of, Mode, permissive, mode_of, mark_known}
+use Rattle.store.specs.declared.Mode.{Mode}
+use Rattle.store.specs.declared.Mode.TheVariants.{Permissive}
+use Rattle.store.specs.Marks.{Mark, mark_of, mode_of, mark_known}
 use Rattle.store.specs.Stores.{store_length, cell_at, store_of, entry_of, store_entries, store_bytes, store_over, store_fits, marks_right}
 use Rattle.rules.specs.Ends.{stop_number, End, done, spent, stopped}
 use Rattle.rules.specs.Rules.{exec, running}
@@ -52,7 +54,7 @@ request_checks sheet store reader request room =
 
 -- of a hand-out; it takes any mark that the sheet knows
 abbrev pub hand_out_checks : List ℕ → List ℕ → ℕ → List ℕ → ℕ → List Check
-hand_out_checks sheet store reader request room = sheet_checks sheet ++ store_checks sheet store permissive ++ request_checks sheet store reader request room
+hand_out_checks sheet store reader request room = sheet_checks sheet ++ store_checks sheet store Permissive ++ request_checks sheet store reader request room
 
 -- ── the calls ───────────────────────────────────────────────────────────────────────────────
 

@@ -1,7 +1,6 @@
 // The checks of each call, in the order of document 01's table: what the list of `specs/Calls` tells.
 ghost use Rattle.std.specs.Prelude.{◌≡◌, ◌++◌};
 ghost use Rattle.basis.specs.Checks.{tells};
-ghost use Rattle.store.specs.Marks.{mode_of};
 ghost use Rattle.sheet.specs.Inside.Loaded.{Loaded};
 ghost use Rattle.beltuqash.specs.Calls.{load, sheet_checks, store_checks, run_checks, hand_out_checks, request_checks};
 ghost use Rattle.beltuqash.specs.Inside.Given.{Taken};
@@ -9,9 +8,7 @@ ghost use Rattle.beltuqash.specs.Inside.Given.{Taken};
 use basis::answer::{Answer, refusal, success};
 use basis::numbers;
 use handout::{answers, requests};
-
-// A hand-out takes any mark that the sheet knows, as a permissive run does.
-const PERMISSIVE: u32 = 1;
+use store::Mode;
 
 // What load answers.
 pub fn judge_sheet(sheet: &[u8]) -> Answer
@@ -24,9 +21,9 @@ pub fn judge_sheet(sheet: &[u8]) -> Answer
 }
 
 // A store, beside a sheet that passes: 8 and 9.
-fn judge_store(sheet: &[u8], store: &[u8], mode: u32) -> Answer
+fn judge_store(sheet: &[u8], store: &[u8], mode: Mode) -> Answer
     requires { Loaded sheet.now }
-    ensures { result ≡ tells (store_checks sheet.now store.now (mode_of mode)) }
+    ensures { result ≡ tells (store_checks sheet.now store.now mode) }
 {
     let fields = sections::fields(sheet).len() / 8;
     if !store::fits(store, fields) {
@@ -39,8 +36,8 @@ fn judge_store(sheet: &[u8], store: &[u8], mode: u32) -> Answer
 }
 
 // A sheet and a store.
-fn judge_both(sheet: &[u8], store: &[u8], mode: u32) -> Answer
-    ensures { result ≡ tells (sheet_checks sheet.now ++ store_checks sheet.now store.now (mode_of mode)) }
+fn judge_both(sheet: &[u8], store: &[u8], mode: Mode) -> Answer
+    ensures { result ≡ tells (sheet_checks sheet.now ++ store_checks sheet.now store.now mode) }
 {
     let verdict = judge_sheet(sheet);
     if verdict.number != numbers::DONE {
@@ -56,7 +53,7 @@ pub fn judge_run(sheet: &[u8], store: &[u8], mode: u32, fuel: u32, room: usize) 
     if (1 < mode) | (1000000 < fuel) {
         return refusal(numbers::MODE_OR_FUEL, 0);
     }
-    let refused = judge_both(sheet, store, mode);
+    let refused = judge_both(sheet, store, Mode::from(mode));
     if refused.number != numbers::DONE {
         return refused;
     }
@@ -66,7 +63,7 @@ pub fn judge_run(sheet: &[u8], store: &[u8], mode: u32, fuel: u32, room: usize) 
     success(0)
 }
 
-// A hand-out, whose answer has so much room.
+// A hand-out, whose answer has so much room. It takes any mark that the sheet knows, as a permissive run does.
 pub fn judge_hand_out(
     sheet: &[u8],
     store: &[u8],
@@ -76,7 +73,7 @@ pub fn judge_hand_out(
 ) -> Answer
     ensures { result ≡ tells (hand_out_checks sheet.now store.now reader request.now room) }
 {
-    let refused = judge_both(sheet, store, PERMISSIVE);
+    let refused = judge_both(sheet, store, Mode::Permissive);
     if refused.number != numbers::DONE {
         return refused;
     }
@@ -85,7 +82,7 @@ pub fn judge_hand_out(
 
 // A request, of a store that a hand-out takes: 17, 11 and 18.
 fn judge_request(sheet: &[u8], store: &[u8], reader: u32, request: &[u8], room: usize) -> Answer
-    requires { Taken sheet.now store.now (mode_of 1) }
+    requires { Taken sheet.now store.now Mode.Permissive }
     ensures { result ≡ tells (request_checks sheet.now store.now reader request.now room) }
 {
     let rows = sections::levels(sheet);

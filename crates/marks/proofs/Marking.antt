@@ -10,7 +10,8 @@ use Rattle.levels.specs.Lattice.{Lattice, lattice}
 use Rattle.levels.proofs.Joins.{join_above, join_idem}
 use Rattle.levels.proofs.Laws.{laws, le-at, join-at, meet-at}
 use Rattle.levels.proofs.Facts.{facts}
-use Rattle.store.specs.Marks.{Mark, whole, partial, level_of, is_partial, mark_of, strict, permissive, mode_of, mark_known}
+use Rattle.store.specs.declared.Mode.TheVariants.{Strict, Permissive}
+use Rattle.store.specs.Marks.{Mark, whole, partial, level_of, is_partial, mark_of, mode_of, mark_known}
 use Rattle.store.proofs.Marks.{mark-whole, known_is, known_of}
 use Rattle.rules.specs.Ends.{not_below, Try, fine, fails}
 use Rattle.rules.specs.LevelMarks.{joined, stored}
@@ -63,11 +64,11 @@ level-mark rows h level inside =
 
 -- ── what an assignment leaves ───────────────────────────────────────────────────────────────
 
-mode_strict : (number : ℕ) → number ≡ 0 → mode_of number ≡ strict
+mode_strict : (number : ℕ) → number ≡ 0 → mode_of number ≡ Strict
 unfolding mode_of
 mode_strict number e = rw e
 
-mode_permissive : (number : ℕ) → (number ≡ 0 → ⊥) → mode_of number ≡ permissive
+mode_permissive : (number : ℕ) → (number ≡ 0 → ⊥) → mode_of number ≡ Permissive
 unfolding mode_of
 mode_permissive number n = rw (ne_eqb number 0 n)
 

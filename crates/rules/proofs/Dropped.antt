@@ -10,7 +10,9 @@ use Rattle.levels.specs.Lattice.{Lattice, Laws}
 use Rattle.store.specs.Cells.{Cell, cell, Store}
 use Rattle.rules.specs.Ends.{Result, gives, stops, End, done, at, with, choose, spend, bind}
 use Rattle.rules.specs.Rules.{computed, reading, operated, inverted, sealing, eval, branch, tested, rounds, exec_by, exec}
-use Rattle.store.specs.Marks.{Mark, whole, partial, Mode, strict, permissive, level_of}
+use Rattle.store.specs.declared.Mode.{Mode}
+use Rattle.store.specs.declared.Mode.TheVariants.{Strict, Permissive}
+use Rattle.store.specs.Marks.{Mark, whole, partial, level_of}
 use Rattle.rules.specs.LevelMarks.{joined, entered, stored, marking}
 use Rattle.rules.specs.Dropped.{dropping, exec_dropping, DroppingSame}
 use Rattle.rules.proofs.Pairs.{Results, results, at_results, any_fines, then_results}
@@ -48,8 +50,8 @@ module _ (𝓛 : Lattice) (𝓘 : Laws 𝓛) where
       stored_above_lem : (mode : Mode) (x : Bool) (context A : ℕ) (m : Mark) → 𝓛.le a context ≡ true → Fine Above (stored 𝓛 mode x context A m)
       unfolding stored
       stored_above_lem mode true context A m h = good (raised_above m context h)
-      stored_above_lem strict false context A m h = bad
-      stored_above_lem permissive false context A m h = good part
+      stored_above_lem Strict false context A m h = bad
+      stored_above_lem Permissive false context A m h = good part
 
       unfoldable rising : Moves (marking 𝓛 mode)
       rising = record {

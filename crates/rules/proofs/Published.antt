@@ -15,7 +15,9 @@ use Rattle.sheet.specs.Trees.{Exp, constant, field, operator, Cmd, assign, seque
 use Rattle.rules.specs.Ends.{Why, Result, gives, stops, End, done, spent, stopped, at, and_then, with, choose, spend, bind}
 use Rattle.store.specs.Cells.{Cell, cell, Store}
 use Rattle.rules.specs.Rules.{put, computed, reading, operated, inverted, sealing, eval, updated, branch, tested, rounds, exec_by, exec}
-use Rattle.store.specs.Marks.{Mark, whole, partial, Mode, strict, permissive, level_of}
+use Rattle.store.specs.declared.Mode.{Mode}
+use Rattle.store.specs.declared.Mode.TheVariants.{Strict, Permissive}
+use Rattle.store.specs.Marks.{Mark, whole, partial, level_of}
 use Rattle.rules.specs.LevelMarks.{joined, entered, stored, marking}
 use Rattle.rules.proofs.Units.{while_law}
 use Rattle.rules.specs.Published.{Evaluates, const, var, oper, not, seal, Executes, skip, seq, if_else_t, if_else_f, while_t, while_f, assn_nsu, assn_1, assn_2}
@@ -139,10 +141,10 @@ module _ (𝓛 : Lattice) (𝓘 : Laws 𝓛) where
       go : (mode : Mode) (b : Bool) → 𝓛.le pc (level_of l) ≡ b
           → Leads (Executes 𝓛 mode (assign place x e) pc σ)
           (with (and_then (at place (stored 𝓛 mode b pc (level_of l) m)) (λ k. gives (cell n k))) left (λ k. done (put x k σ) left))
-      go strict true i = rw (joined_comm m (whole pc)) (leads (assn_nsu is i h))
-      go strict false i = no_end
-      go permissive true i = rw (joined_comm m (whole pc)) (leads (assn_1 is h i))
-      go permissive false i = leads (assn_2 is h i)
+      go Strict true i = rw (joined_comm m (whole pc)) (leads (assn_nsu is i h))
+      go Strict false i = no_end
+      go Permissive true i = rw (joined_comm m (whole pc)) (leads (assn_1 is h i))
+      go Permissive false i = leads (assn_2 is h i)
 
   rounds_leads : (mode : Mode) (place : ℕ) (e : Exp) (c : Cmd) (body : ℕ → Store Mark → ℕ → End Mark)
       → ((pc : ℕ) (σ : Store Mark) (fuel : ℕ) → Leads (Executes 𝓛 mode c pc σ) (body pc σ fuel))
@@ -241,9 +243,9 @@ module _ (𝓛 : Lattice) (𝓘 : Laws 𝓛) where
   runs (while_t {mode} {place} {pc} {A} {e} {c} {σ} {σ''} {σ'} w t s r) =
       round mode place pc w c σ' t (two_runs mode c (while place e c) (𝓛.join pc A) σ σ'' σ' (runs s) (runs r))
   runs (while_f {mode} {place} {pc} {c} w t) = over mode place pc w c t
-  runs (assn_nsu {pc} {m} is i h) = one_unit (rw (eval-is strict h, is, i, joined_comm (whole pc) m))
-  runs (assn_1 {pc} {m} is h i) = one_unit (rw (eval-is permissive h, is, i, joined_comm (whole pc) m))
-  runs (assn_2 is h i) = one_unit (rw (eval-is permissive h, is, i))
+  runs (assn_nsu {pc} {m} is i h) = one_unit (rw (eval-is Strict h, is, i, joined_comm (whole pc) m))
+  runs (assn_1 {pc} {m} is h i) = one_unit (rw (eval-is Permissive h, is, i, joined_comm (whole pc) m))
+  runs (assn_2 is h i) = one_unit (rw (eval-is Permissive h, is, i))
 
 pub runs_as_published : RunsAsPublished
 runs_as_published 𝓛 𝓘 mode c pc σ σ' = (λ x. follows 𝓛 𝓘 mode c pc σ σ' x.fuel x.left x.ends, λ r. runs 𝓛 𝓘 r)

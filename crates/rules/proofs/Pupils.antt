@@ -14,7 +14,8 @@ use Rattle.levels.proofs.Laws.{laws}
 use Rattle.sheet.specs.Trees.{constant, field, operator, Cmd, skip, assign, sequence, if_else, while}
 use Rattle.store.specs.Cells.{Cell, cell, Store}
 use Rattle.rules.specs.Rules.{running}
-use Rattle.store.specs.Marks.{Mark, whole, partial, is_partial, permissive}
+use Rattle.store.specs.declared.Mode.TheVariants.{Permissive}
+use Rattle.store.specs.Marks.{Mark, whole, partial, is_partial}
 use Rattle.rules.specs.LevelMarks.{joined, entered, stored, marking}
 use Rattle.rules.specs.Agreement.{Agree, shown, hidden, second_partial}
 use Rattle.rules.specs.Pupils.{KeepsSecrets, KeepsToRules, a_kept, old_context_later, never_clean, PupilsCaught, stored_keeping, later_rounds, stored_above}
@@ -60,7 +61,7 @@ apart (second_partial (inr e)) = true≢false (sym e)
 a_kept_leaks : KeepsSecrets a_kept → ⊥
 unfolding assigns start fields number diamond ordering running operating joined entered stored_keeping stored
 a_kept_leaks keeps =
-    apart (keeps (lattice diamond) (laws diamond diamond-right) 1 refl permissive assigns 0 2 2 (start 3) (start 2) start-agree _ _ 0 0 refl refl 1)
+    apart (keeps (lattice diamond) (laws diamond diamond-right) 1 refl Permissive assigns 0 2 2 (start 3) (start 2) start-agree _ _ 0 0 refl refl 1)
 
 -- ── the old context in later rounds ─────────────────────────────────────────────────────────
 
@@ -92,7 +93,7 @@ told (hidden e d) = true≢false e
 old_context_leaks : KeepsSecrets old_context_later → ⊥
 unfolding counts from fields number two ordering running operating joined entered stored later_rounds
 old_context_leaks keeps =
-    told (keeps (lattice two) (laws two two_right) 0 refl permissive counts 0 1 7 (from 0) (from 2) from_agree _ _ 0 0 refl refl 1)
+    told (keeps (lattice two) (laws two two_right) 0 refl Permissive counts 0 1 7 (from 0) (from 2) from_agree _ _ 0 0 refl refl 1)
 
 -- ── partial as above TOP ────────────────────────────────────────────────────────────────────
 
@@ -111,8 +112,8 @@ never_clean_unpublished : KeepsToRules never_clean → ⊥
 unfolding cleans half half_closed fields number two ordering running joined stored_above stored
 never_clean_unpublished keeps =
     let 𝓘 = laws two two_right in
-    let x = (runs_as_published (lattice two) 𝓘 permissive cleans 0 half _).1 (keeps (lattice two) 𝓘 permissive cleans 0 1 0 half _ refl) in
-    let same = done-once (marking (lattice two) permissive) cleans 0 half x.fuel 1 x.left 0 _ _ x.ends refl in
+    let x = (runs_as_published (lattice two) 𝓘 Permissive cleans 0 half _).1 (keeps (lattice two) 𝓘 Permissive cleans 0 1 0 half _ refl) in
+    let same = done-once (marking (lattice two) Permissive) cleans 0 half x.fuel 1 x.left 0 _ _ x.ends refl in
     true≢false (ap (λ (σ : Store Mark). half_closed (σ 0)) same)
 
 pub pupils_caught : PupilsCaught

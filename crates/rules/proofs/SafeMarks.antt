@@ -10,7 +10,9 @@ use Rattle.levels.specs.Lattice.{Lattice, Laws}
 use Rattle.store.specs.Cells.{Cell, cell, Store}
 use Rattle.rules.specs.Ends.{done}
 use Rattle.rules.specs.Rules.{exec}
-use Rattle.store.specs.Marks.{Mark, whole, partial, Mode, strict, permissive, level_of}
+use Rattle.store.specs.declared.Mode.{Mode}
+use Rattle.store.specs.declared.Mode.TheVariants.{Strict, Permissive}
+use Rattle.store.specs.Marks.{Mark, whole, partial, level_of}
 use Rattle.rules.specs.LevelMarks.{joined, entered, stored, marking}
 use Rattle.rules.specs.Agreement.{Agree, shown, hidden, both_partial, first_partial, second_partial}
 use Rattle.rules.proofs.Pairs.{Fines, fines, fails-first, fails-second}
@@ -92,20 +94,20 @@ module _ (𝓛 : Lattice) (𝓘 : Laws 𝓛) (R : ℕ) where
       → Fines (λ a b. (a ≡ b) ⊎ Blind a b) (stored 𝓛 mode x context A m) (stored 𝓛 mode y context B m)
   unfolding stored
   store_same mode true true context A B m = fines (inl refl)
-  store_same strict true false context A B m = fails-second
-  store_same strict false y context A B m = fails-first
-  store_same permissive true false context A B m = fines (inr (part, meet_clear context B m))
-  store_same permissive false true context A B m = fines (inr (meet_clear context A m, part))
-  store_same permissive false false context A B m = fines (inr (part, part))
+  store_same Strict true false context A B m = fails-second
+  store_same Strict false y context A B m = fails-first
+  store_same Permissive true false context A B m = fines (inr (part, meet_clear context B m))
+  store_same Permissive false true context A B m = fines (inr (meet_clear context A m, part))
+  store_same Permissive false false context A B m = fines (inr (part, part))
 
   store_blind : (mode : Mode) (x y : Bool) (context A B : ℕ) (m n : Mark) → Blind m n → Fines Blind (stored 𝓛 mode x context A m) (stored 𝓛 mode y context B n)
   unfolding stored
   store_blind mode true true context A B m n (h, k) = fines (clear_left m n (whole context) h, clear_left n m (whole context) k)
-  store_blind strict true false context A B m n h = fails-second
-  store_blind strict false y context A B m n h = fails-first
-  store_blind permissive true false context A B m n h = fines (part, meet_clear context B m)
-  store_blind permissive false true context A B m n h = fines (meet_clear context A n, part)
-  store_blind permissive false false context A B m n h = fines (part, part)
+  store_blind Strict true false context A B m n h = fails-second
+  store_blind Strict false y context A B m n h = fails-first
+  store_blind Permissive true false context A B m n h = fines (part, meet_clear context B m)
+  store_blind Permissive false true context A B m n h = fines (meet_clear context A n, part)
+  store_blind Permissive false false context A B m n h = fines (part, part)
 
   -- ── how a mark may move in a secret context ───────────────────────────────────────────────
 
@@ -145,8 +147,8 @@ module _ (𝓛 : Lattice) (𝓘 : Laws 𝓛) (R : ℕ) where
       → Fine (Moved old) (stored 𝓛 mode x context (level_of old) m)
   unfolding stored
   store_secret mode true context old m e h = good (hides (no_below e h) (raised_clear m context h))
-  store_secret strict false context old m e h = bad
-  store_secret permissive false context old m e h = good (sinks (𝓘.meet-lower-right context (level_of old)))
+  store_secret Strict false context old m e h = bad
+  store_secret Permissive false context old m e h = good (sinks (𝓘.meet-lower-right context (level_of old)))
 
   -- ── safe ──────────────────────────────────────────────────────────────────────────────────
 

@@ -13,7 +13,8 @@ use Rattle.levels.specs.Lattice.{Lattice}
 use Rattle.rules.specs.Ends.{Why, Try, fine, fails, Result, gives, stops, End, done, spent, stopped, at, and_then, with, choose, spend, bind}
 use Rattle.rules.specs.Rules.{Marking, put, reading, operated, inverted, sealing, eval, updated, branch, tested, rounds, exec_by, exec}
 use Rattle.store.specs.Cells.{Cell, cell, Store}
-use Rattle.store.specs.Marks.{Mark, strict, permissive, level_of}
+use Rattle.store.specs.declared.Mode.TheVariants.{Strict, Permissive}
+use Rattle.store.specs.Marks.{Mark, level_of}
 use Rattle.rules.specs.LevelMarks.{stored, marking}
 
 -- the second goes on wherever the first does; if they are alike, it stops wherever the first does
@@ -222,21 +223,21 @@ module _ {Mark Seen Context : Type 0} (𝓜 : Marking Mark Seen Context) where
 -- ── strict inside permissive ────────────────────────────────────────────────────────────────
 
 module _ (𝓛 : Lattice) where
-  stored_on : (x : Bool) (context A : ℕ) (m : Mark) → GoesOn false (stored 𝓛 strict x context A m) (stored 𝓛 permissive x context A m)
+  stored_on : (x : Bool) (context A : ℕ) (m : Mark) → GoesOn false (stored 𝓛 Strict x context A m) (stored 𝓛 Permissive x context A m)
   unfolding stored
   stored_on true context A m = on
   stored_on false context A m = free refl
 
-  strict-within : Within false (marking 𝓛 strict) (marking 𝓛 permissive)
+  strict-within : Within false (marking 𝓛 Strict) (marking 𝓛 Permissive)
   strict-within = record {
     constant-same = refl;
     sealed-same = refl;
     read_same = λ i m. refl;
     join-same = λ m n. refl;
-    enter_on = λ context m. goes_on ((marking 𝓛 strict).enter context m);
+    enter_on = λ context m. goes_on ((marking 𝓛 Strict).enter context m);
     store_on = λ place context old m. stored_on _ context (level_of old) _;
   }
 
   pub strict_permissive : (c : Cmd) (context : ℕ) (σ τ : Store Mark) (fuel left : ℕ)
-      → exec (marking 𝓛 strict) c context σ fuel ≡ done τ left → exec (marking 𝓛 permissive) c context σ fuel ≡ done τ left
+      → exec (marking 𝓛 Strict) c context σ fuel ≡ done τ left → exec (marking 𝓛 Permissive) c context σ fuel ≡ done τ left
   strict_permissive c context σ τ fuel left e = rw (add-zero fuel, add-zero left) at (done-within strict-within 0 c context σ τ fuel left e)

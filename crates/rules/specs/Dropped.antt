@@ -7,7 +7,7 @@ use Rattle.levels.specs.Lattice.{Lattice, Laws}
 use Rattle.rules.specs.Rules.{Marking, tested, exec_by, exec}
 use Rattle.store.specs.Cells.{Store}
 use Rattle.rules.specs.Ends.{End, done, spent, bind}
-use Rattle.store.specs.Marks.{Mode}
+use Rattle.store.specs.declared.Mode.{Mode}
 use Rattle.rules.specs.LevelMarks.{marking}
 
 module _ {Mark Seen Context : Type 0} (𝓜 : Marking Mark Seen Context) where

@@ -1,7 +1,9 @@
 -- The marks of document 01 in a run, in strict and in permissive mode.
 use Rattle.std.specs.Prelude.{ℕ, Bool, true, false}
 use Rattle.levels.specs.Lattice.{Lattice}
-use Rattle.store.specs.Marks.{Mark, whole, partial, level_of, Mode, strict, permissive}
+use Rattle.store.specs.declared.Mode.{Mode}
+use Rattle.store.specs.declared.Mode.TheVariants.{Strict, Permissive}
+use Rattle.store.specs.Marks.{Mark, whole, partial, level_of}
 use Rattle.rules.specs.Ends.{not_below, partial_test, Try, fine, fails}
 use Rattle.rules.specs.Rules.{Marking}
 
@@ -22,8 +24,8 @@ module _ (𝓛 : Lattice) where
   -- stores the value with the meet of pc and A, partial, whatever m is.
   unfoldable pub stored : Mode → Bool → ℕ → ℕ → Mark → Try Mark
   stored mode true context A m = fine (joined m (whole context))
-  stored strict false context A m = fails not_below
-  stored permissive false context A m = fine (partial (𝓛.meet context A))
+  stored Strict false context A m = fails not_below
+  stored Permissive false context A m = fine (partial (𝓛.meet context A))
 
   -- A constant is whole BOT. Seal gives whole TOP. The run starts with context BOT. What an assignment leaves is a rule over pc, the field's mark and m.
   abbrev pub marking_by : (ℕ → Mark → Mark → Try Mark) → Marking Mark Mark ℕ

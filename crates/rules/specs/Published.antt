@@ -10,7 +10,9 @@ use Rattle.sheet.specs.Trees.{Exp, constant, field, operator, Cmd, assign, seque
 use Rattle.store.specs.Cells.{cell, Store}
 use Rattle.rules.specs.Rules.{put, exec}
 use Rattle.rules.specs.Ends.{Why, End, done, spent, stopped}
-use Rattle.store.specs.Marks.{Mark, whole, partial, Mode, strict, permissive, level_of}
+use Rattle.store.specs.declared.Mode.{Mode}
+use Rattle.store.specs.declared.Mode.TheVariants.{Strict, Permissive}
+use Rattle.store.specs.Marks.{Mark, whole, partial, level_of}
 use Rattle.rules.specs.LevelMarks.{joined, marking}
 
 module _ (𝓛 : Lattice) where
@@ -40,12 +42,12 @@ module _ (𝓛 : Lattice) where
         → Executes mode (while place e c) pc σ σ
     -- figure 3, for strict mode
     assn_nsu : {place pc x : ℕ} {e : Exp} {σ : Store Mark} {o n : Value} {l m : Mark} → σ x ≡ cell o l → 𝓛.le pc (level_of l) ≡ true → Evaluates σ e n m
-        → Executes strict (assign place x e) pc σ (put x (cell n (joined 𝓛 (whole pc) m)) σ)
+        → Executes Strict (assign place x e) pc σ (put x (cell n (joined 𝓛 (whole pc) m)) σ)
     -- figure 5, for permissive mode
     assn_1 : {place pc x : ℕ} {e : Exp} {σ : Store Mark} {o n : Value} {l m : Mark} → σ x ≡ cell o l → Evaluates σ e n m → 𝓛.le pc (level_of l) ≡ true
-        → Executes permissive (assign place x e) pc σ (put x (cell n (joined 𝓛 (whole pc) m)) σ)
+        → Executes Permissive (assign place x e) pc σ (put x (cell n (joined 𝓛 (whole pc) m)) σ)
     assn_2 : {place pc x : ℕ} {e : Exp} {σ : Store Mark} {o n : Value} {l m : Mark} → σ x ≡ cell o l → Evaluates σ e n m → 𝓛.le pc (level_of l) ≡ false
-        → Executes permissive (assign place x e) pc σ (put x (cell n (partial (𝓛.meet pc (level_of l)))) σ)
+        → Executes Permissive (assign place x e) pc σ (put x (cell n (partial (𝓛.meet pc (level_of l)))) σ)
 
   -- the rules' run is done with some fuel
   pub record Runs (mode : Mode) (c : Cmd) (pc : ℕ) (σ σ' : Store Mark) : Type 0 where

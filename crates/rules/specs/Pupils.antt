@@ -7,7 +7,9 @@ use Rattle.levels.specs.Lattice.{Lattice, Laws}
 use Rattle.rules.specs.Ends.{Try, fine, End, done, spent, bind}
 use Rattle.rules.specs.Rules.{Marking, tested, Loop, exec_by, exec}
 use Rattle.store.specs.Cells.{Store}
-use Rattle.store.specs.Marks.{Mark, whole, partial, Mode, strict, permissive}
+use Rattle.store.specs.declared.Mode.{Mode}
+use Rattle.store.specs.declared.Mode.TheVariants.{Strict, Permissive}
+use Rattle.store.specs.Marks.{Mark, whole, partial}
 use Rattle.rules.specs.LevelMarks.{stored, marking_by, leaving, marking}
 use Rattle.rules.specs.Agreement.{Agree}
 use Rattle.rules.specs.Published.{Executes}
@@ -39,8 +41,8 @@ KeepsToRules monitor =
 module _ (𝓛 : Lattice) where
   unfoldable pub stored_keeping : Mode → Bool → ℕ → ℕ → Mark → Try Mark
   stored_keeping mode true context A m = stored 𝓛 mode true context A m
-  stored_keeping strict false context A m = stored 𝓛 strict false context A m
-  stored_keeping permissive false context A m = fine (partial A)
+  stored_keeping Strict false context A m = stored 𝓛 Strict false context A m
+  stored_keeping Permissive false context A m = fine (partial A)
 
 abbrev pub a_kept : Monitor
 a_kept 𝓛 mode = exec (marking_by 𝓛 (leaving 𝓛 (stored_keeping 𝓛 mode)))

@@ -19,7 +19,8 @@ use Rattle.std.specs.Prelude.{is_ok}
 use Rattle.sections.specs.Sections.{levels_of}
 use Rattle.sheet.specs.Load.{field_count, program_of, load_of}
 use Rattle.store.specs.Cells.{Store}
-use Rattle.store.specs.Marks.{Mark, strict, permissive, mode_of, mark_taken}
+use Rattle.store.specs.declared.Mode.TheVariants.{Strict, Permissive}
+use Rattle.store.specs.Marks.{Mark, mode_of, mark_taken}
 use Rattle.store.specs.Stores.{store_length, store_of, store_bytes, store_fits, mark_at, marks_right}
 use Rattle.store.proofs.Entries.{store_length_lem}
 use Rattle.rules.specs.Ends.{stop_number, Why, out_of_range, divisor_zero, not_below, partial_test, End, done, spent, stopped}
@@ -83,10 +84,10 @@ module _ {sheet store : List ℕ} {mode fuel : ℕ} {out : List ℕ} where
 
 -- ── strict, and permissive with the same fuel ───────────────────────────────────────────────
 
-taken_permissive : (levels fields : ℕ) (store : List ℕ) → marks_right strict levels fields store ≡ true → marks_right permissive levels fields store ≡ true
+taken_permissive : (levels fields : ℕ) (store : List ℕ) → marks_right Strict levels fields store ≡ true → marks_right Permissive levels fields store ≡ true
 unfolding marks_right
 taken_permissive levels fields store e =
-    all_of fields _ (λ i h. (both _ _ (all-at fields (λ i. mark_taken strict levels (mark_at store i)) e i h)).0)
+    all_of fields _ (λ i h. (both _ _ (all-at fields (λ i. mark_taken Strict levels (mark_at store i)) e i h)).0)
 
 module _ {sheet store : List ℕ} {fuel : ℕ} {out : List ℕ} where
   pub permissive_passes : Passed sheet store 0 fuel out → Passed sheet store 1 fuel out
@@ -95,7 +96,7 @@ module _ {sheet store : List ℕ} {fuel : ℕ} {out : List ℕ} where
       let (asked, h₁) = both (leb fuel 1000000) _ passed.hold in
       let (passes, h₂) = both (is_ok (load_of sheet)) _ h₁ in
       let (fits, h₃) = both (store_fits (field_count sheet) store) _ h₂ in
-      let (marks, room) = both (marks_right strict (count (levels_of sheet)) (field_count sheet) store) _ h₃ in
+      let (marks, room) = both (marks_right Strict (count (levels_of sheet)) (field_count sheet) store) _ h₃ in
       record { hold = and_of_lem asked (and_of_lem passes (and_of_lem fits (and_of_lem (taken_permissive _ _ store marks) room))) }
 
   pub permissive_ran : (x : Finished sheet store 0 fuel out) → executed sheet store 1 fuel out ≡ done x.final x.left

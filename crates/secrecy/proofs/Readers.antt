@@ -10,7 +10,8 @@ use Rattle.levels.specs.Lattice.{Lattice, Laws}
 use Rattle.store.specs.Cells.{Cell, Store}
 use Rattle.rules.specs.Ends.{done}
 use Rattle.rules.specs.Rules.{exec}
-use Rattle.store.specs.Marks.{Mark, Mode}
+use Rattle.store.specs.declared.Mode.{Mode}
+use Rattle.store.specs.Marks.{Mark}
 use Rattle.rules.specs.LevelMarks.{marking}
 use Rattle.rules.specs.Agreement.{Agree, shown, hidden, both_partial, first_partial, second_partial}
 use Rattle.secrecy.specs.Secrecy.{HalfClosed, half_closed}

@@ -18,7 +18,8 @@ use Rattle.levels.proofs.Joins.{not_top}
 use Rattle.levels.proofs.Laws.{laws}
 use Rattle.sections.specs.Sections.{levels_of}
 use Rattle.sheet.specs.Load.{field_count}
-use Rattle.store.specs.Marks.{mark_of, Mode, mark_known}
+use Rattle.store.specs.declared.Mode.{Mode}
+use Rattle.store.specs.Marks.{mark_of, mark_known}
 use Rattle.store.specs.Stores.{mark_at, cell_at, store_of, store_length, store_fits}
 use Rattle.store.proofs.Marks.{known_is, marks-known}
 use Rattle.store.proofs.Entries.{past-fields}

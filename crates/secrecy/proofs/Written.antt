@@ -10,7 +10,9 @@ use Rattle.levels.specs.Lattice.{Lattice, Laws}
 use Rattle.store.specs.Cells.{Cell, cell, Store}
 use Rattle.rules.specs.Ends.{done}
 use Rattle.rules.specs.Rules.{exec}
-use Rattle.store.specs.Marks.{Mark, whole, partial, Mode, strict, permissive, level_of}
+use Rattle.store.specs.declared.Mode.{Mode}
+use Rattle.store.specs.declared.Mode.TheVariants.{Strict, Permissive}
+use Rattle.store.specs.Marks.{Mark, whole, partial, level_of}
 use Rattle.rules.specs.LevelMarks.{joined, entered, stored, marking}
 use Rattle.store.specs.Stores.{cell_at, entry_of, store_bytes}
 use Rattle.store.proofs.Marks.{mark_back}
@@ -32,8 +34,8 @@ module _ (𝓛 : Lattice) (𝓘 : Laws 𝓛) where
   stored-level : (mode : Mode) (x : Bool) (context A : ℕ) (m : Mark) → Fine (λ (k : Mark). level_of k < 𝓛.levels) (stored 𝓛 mode x context A m)
   unfolding stored
   stored-level mode true context A m = good (joined-level m context)
-  stored-level strict false context A m = bad
-  stored-level permissive false context A m = good (𝓘.meet_in context A)
+  stored-level Strict false context A m = bad
+  stored-level Permissive false context A m = good (𝓘.meet_in context A)
 
   entered_any : (context : ℕ) (m : Mark) → Fine (λ (c : ℕ). Unit {0}) (entered 𝓛 context m)
   unfolding entered

@@ -7,7 +7,8 @@ use Rattle.value.specs.Bytes.{of_bits, bits_of, bytes_of}
 use Rattle.levels.specs.Lattice.{lattice}
 use Rattle.rules.specs.Ends.{stop_number, Try, fine, fails}
 use Rattle.store.specs.Cells.{cell}
-use Rattle.store.specs.Marks.{Mark, whole, partial, permissive}
+use Rattle.store.specs.declared.Mode.TheVariants.{Permissive}
+use Rattle.store.specs.Marks.{Mark, whole, partial}
 use Rattle.store.specs.Stores.{entry_of}
 use Rattle.rules.specs.LevelMarks.{marking}
 use Rattle.basis.specs.Numbers as numbers
@@ -86,8 +87,8 @@ ran o = runs o.answer o.out
 
 pub answer_to : Question → Came
 answer_to (operator op x y) = ran (run (operator_sheet op x y) (q_store (pos 0)) 0 1000 lent)
-answer_to (join m k) = mark ((marking (lattice diamond) permissive).join m k)
-answer_to (assign context old m) = tried ((marking (lattice diamond) permissive).store 0 context old m)
+answer_to (join m k) = mark ((marking (lattice diamond) Permissive).join m k)
+answer_to (assign context old m) = tried ((marking (lattice diamond) Permissive).store 0 context old m)
 answer_to (rows order) = loads (load (sheet_with order))
 answer_to (flag cost mode) = ran (run flag_sheet (store_at cost) mode 1000 (store_at 0))
 

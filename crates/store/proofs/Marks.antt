@@ -4,10 +4,12 @@ use native.Mathlib.Omega.{arith}
 use mathlib.Core.Path.{◌≡◌, refl, sym, ap, ◌∙◌}
 use mathlib.Core.Bool.{true, false, true≢false}
 use mathlib.Core.List.{List}
-use borrow.Author.Tests.{lt-ltb, le-ltb, lt-leb, ltb-true, ltb-false, leb-true, le-leb}
-use lib.Dec.{ltb, leb}
+use borrow.Author.Tests.{lt-ltb, le-ltb, ltb-true, ltb-false, leb-true, le-leb}
+use lib.Dec.{ltb}
 use Rattle.basis.proofs.Tests.{both, and_of_lem, split, all-at}
-use Rattle.store.specs.Marks.{Mark, whole, partial, level_of, is_partial, mark_of, byte_of, Mode, strict, permissive, mark_known, mark_taken}
+use Rattle.store.specs.declared.Mode.{Mode}
+use Rattle.store.specs.declared.Mode.TheVariants.{Strict, Permissive}
+use Rattle.store.specs.Marks.{Mark, whole, partial, level_of, is_partial, mark_of, byte_of, mark_known, mark_taken}
 use Rattle.store.specs.Stores.{mark_at, marks_right}
 
 -- a byte below 16 is whole, any other partial
@@ -15,18 +17,12 @@ pub mark-whole : (byte : ℕ) → byte < 16 → mark_of byte ≡ whole byte
 unfolding mark_of
 mark-whole byte h = rw (lt-ltb byte 16 h)
 
-pub mark_partial : (byte : ℕ) → 16 ≤ byte → mark_of byte ≡ partial (byte - 16)
+mark_partial : (byte : ℕ) → 16 ≤ byte → mark_of byte ≡ partial (byte - 16)
 unfolding mark_of
 mark_partial byte h = rw (le-ltb byte 16 h)
 
 by_mark : (P : ℕ → Type 0) (byte : ℕ) → (byte < 16 → P byte) → (16 ≤ byte → P byte) → P byte
 by_mark P byte low high = split (ltb byte 16) (λ t. low (ltb-true byte 16 t)) (λ f. high (ltb-false byte 16 f))
-
-pub partial_says : (byte : ℕ) → is_partial (mark_of byte) ≡ leb 16 byte
-partial_says byte =
-    by_mark (λ b. is_partial (mark_of b) ≡ leb 16 b) byte
-    (λ low. ap is_partial (mark-whole byte low) ∙ sym (lt-leb 16 byte low))
-    (λ high. ap is_partial (mark_partial byte high) ∙ sym (le-leb 16 byte high))
 
 -- a mark is its level, whole or partial
 pub is_whole : (m : Mark) → is_partial m ≡ false → m ≡ whole (level_of m)
@@ -38,7 +34,7 @@ is_partial_lem (whole a) e = absurd (true≢false (sym e))
 is_partial_lem (partial a) e = refl
 
 -- the mark of a level is 16 less than the partial mark there
-pub partial_mark : (level : ℕ) → mark_of (level + 16) ≡ partial level
+partial_mark : (level : ℕ) → mark_of (level + 16) ≡ partial level
 partial_mark level = let back : level + 16 - 16 ≡ level = omega arith in mark_partial (level + 16) (omega arith) ∙ ap partial back
 
 pub level-is : (byte : ℕ) → byte < 32 → level_of (mark_of byte) ≡ byte % 16
@@ -82,8 +78,8 @@ known_at levels byte is few level = known_of levels byte few (rw is level)
 
 -- a mark that a run takes is known
 taken-known : (mode : Mode) (levels byte : ℕ) → mark_taken mode levels byte ≡ true → mark_known levels byte ≡ true
-taken-known strict levels byte e = (both _ _ e).0
-taken-known permissive levels byte e = e
+taken-known Strict levels byte e = (both _ _ e).0
+taken-known Permissive levels byte e = e
 
 pub marks-known : (mode : Mode) (levels fields : ℕ) (store : List ℕ) → marks_right mode levels fields store ≡ true
     → (i : ℕ) → i < fields → mark_known levels (mark_at store i) ≡ true

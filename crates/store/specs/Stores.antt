@@ -4,7 +4,8 @@ use Rattle.basis.specs.Bytes.{word_at}
 use Rattle.basis.specs.Tests.{all}
 use Rattle.value.specs.Bytes.{bytes_of, value_at}
 use Rattle.value.specs.declared.Value.{Value}
-use Rattle.store.specs.Marks.{Mark, mark_of, byte_of, Mode, mark_taken}
+use Rattle.store.specs.declared.Mode.{Mode}
+use Rattle.store.specs.Marks.{Mark, mark_of, byte_of, mark_taken}
 use Rattle.store.specs.Cells.{Cell, cell, Store}
 
 -- how long an entry is, where field i's begins, and how long a store of so many fields is

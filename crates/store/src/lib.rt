@@ -16,33 +16,65 @@ const PARTIAL: u32 = 16;
 // The bytes of an entry: the mark, then the value.
 const ENTRY: usize = 5;
 
-// The bytes of the longest store, which has 64 fields.
+/// The bytes of the longest store, which has 64 fields.
 pub const LONGEST: usize = 2 + 64 * ENTRY;
+
+// ── modes ───────────────────────────────────────────────────────────────────────────────────
+
+/// How a run goes on where a context does not lie at or below a field's level: it stops, or leaves the field partial.
+#[derive(Clone, Copy, Debug, PartialEq, Eq)]
+pub enum Mode {
+    Strict,
+    Permissive,
+}
+
+impl From<u32> for Mode {
+    ghost from_gives = { λ number mode. mode ≡ mode_of number };
+
+    #[tactic(auto, unfolding(crate::specs::Marks::mode_of))]
+    fn from(number: u32) -> Mode {
+        if number == 0 {
+            Mode::Strict
+        } else {
+            Mode::Permissive
+        }
+    }
+}
+
+impl Mode {
+    // Whether a run takes a mark: with a level of the sheet, and whole in a strict run.
+    #[tactic(auto, unfolding(crate::specs::Marks::mark_known))]
+    fn takes(self, mark: u32, levels: usize) -> bool
+        ensures { result ≡ mark_taken self levels mark }
+    {
+        let known = mark <= 31 && ((mark % PARTIAL) as usize) < levels;
+        match self {
+            Mode::Strict => known && mark < PARTIAL,
+            Mode::Permissive => known,
+        }
+    }
+}
 
 // ── marks ───────────────────────────────────────────────────────────────────────────────────
 
-// The level of a mark.
+/// The level of a mark, and what any byte above 31 says, which no run takes.
+#[tactic(auto, unfolding(crate::specs::Marks::mark_of))]
 pub fn level_of(mark: u32) -> usize
-    requires { mark < 32 }
-    ensures { (result ≡ level_of (mark_of mark)) × (result < 16) }
+    ensures { (result ≡ level_of (mark_of mark)) × (mark < 32 → result < 16) × (result ≤ mark) }
 {
-    (mark % PARTIAL) as usize
+    let level = if mark < PARTIAL { mark } else { mark - PARTIAL };
+    level as usize
 }
 
-// The level that any byte says, also one above 31, which no run takes.
-pub fn level_said(mark: u32) -> u32
-    ensures { result ≡ level_of (mark_of mark) }
-{
-    if mark < PARTIAL { mark } else { mark - PARTIAL }
-}
-
+#[tactic(auto, unfolding(crate::specs::Marks::mark_of))]
 pub fn is_partial(mark: u32) -> bool
     ensures { result ≡ is_partial (mark_of mark) }
 {
     PARTIAL <= mark
 }
 
-// The partial mark at a level.
+/// The partial mark at a level.
+#[tactic(auto, unfolding(crate::specs::Marks::mark_of))]
 pub fn partial_at(level: usize) -> u32
     requires { level < 16 }
     ensures { (mark_of result ≡ partial level) × (result < 32) }
@@ -50,21 +82,9 @@ pub fn partial_at(level: usize) -> u32
     level as u32 + PARTIAL
 }
 
-// Whether a run in a mode takes a mark: with a level of the sheet, and whole in a strict run.
-fn mark_taken(mark: u32, mode: u32, levels: usize) -> bool
-    ensures { result ≡ mark_taken (mode_of mode) levels mark }
-{
-    let known = (mark <= 31) & (((mark % PARTIAL) as usize) < levels);
-    if mode == 0 {
-        known & (mark < PARTIAL)
-    } else {
-        known
-    }
-}
-
 // ── stores ──────────────────────────────────────────────────────────────────────────────────
 
-// How long a store of so many fields is.
+/// How long a store of so many fields is.
 pub fn length(fields: usize) -> usize
     requires { fields ≤ 64 }
     ensures { result ≡ store_length fields }
@@ -72,18 +92,16 @@ pub fn length(fields: usize) -> usize
     2 + fields * ENTRY
 }
 
-// Whether a store's length and count are those of so many fields.
+/// Whether a store's length and count are those of so many fields.
+#[tactic(auto, unfolding(crate::specs::Stores::store_fits))]
 pub fn fits(store: &[u8], fields: usize) -> bool
     requires { fields ≤ 64 }
     ensures { result ≡ store_fits fields store.now }
 {
-    if store.len() != length(fields) {
-        return false;
-    }
-    basis::word(store, 0) as usize == fields
+    store.len() == length(fields) && basis::word(store, 0) as usize == fields
 }
 
-// Field i's mark.
+/// Field i's mark.
 pub fn mark_at(store: &[u8], i: usize) -> u32
     requires { store_length (i + 1) ≤ length store.now }
     ensures { (result ≡ mark_at store.now i) × (result < 256) }
@@ -91,7 +109,7 @@ pub fn mark_at(store: &[u8], i: usize) -> u32
     u32::from(store[2 + i * ENTRY])
 }
 
-// Field i's value.
+/// Field i's value.
 pub fn value_at(store: &[u8], i: usize) -> Value
     requires { store_length (i + 1) ≤ length store.now }
     ensures { result ≡ value_of store.now i }
@@ -99,22 +117,15 @@ pub fn value_at(store: &[u8], i: usize) -> Value
     Value::read(store, 2 + i * ENTRY + 1)
 }
 
-// Whether a run in a mode takes every field's mark.
-pub fn marks_right(store: &[u8], mode: u32, levels: usize, fields: usize) -> bool
+/// Whether a run in a mode takes every field's mark.
+pub fn marks_right(store: &[u8], mode: Mode, levels: usize, fields: usize) -> bool
     requires { store_length fields ≤ length store.now }
-    ensures { result ≡ marks_right (mode_of mode) levels fields store.now }
+    ensures { result ≡ marks_right mode levels fields store.now }
 {
-    let mut i = 0;
-    while i < fields {
-        if !mark_taken(mark_at(store, i), mode, levels) {
-            return false;
-        }
-        i += 1;
-    }
-    true
+    (0..fields).all(|i| mode.takes(mark_at(store, i), levels))
 }
 
-// Writes field i's entry.
+/// Writes field i's entry.
 pub fn put_field(out: &mut [u8], i: usize, mark: u32, v: Value)
     requires { (store_length (i + 1) ≤ length out.old) × (mark < 256) }
     ensures { out.new ≡ sets out.old (entry_at i) (mark ∷ bytes_of v.n) }

@@ -6,7 +6,9 @@ use Rattle.levels.specs.Levels.{count}
 use Rattle.sections.specs.Sections.{levels_of}
 use Rattle.sheet.specs.Load.{field_count}
 use Rattle.sheet.specs.Inside.Loaded.{Loaded}
-use Rattle.store.specs.Marks.{Mode, permissive, mode_of}
+use Rattle.store.specs.declared.Mode.{Mode}
+use Rattle.store.specs.declared.Mode.TheVariants.{Permissive}
+use Rattle.store.specs.Marks.{mode_of}
 use Rattle.store.specs.Stores.{store_length, store_fits, marks_right}
 use Rattle.handout.specs.Requests.{request_right}
 
@@ -25,7 +27,7 @@ pub record Given (sheet store : List ℕ) (mode fuel room : ℕ) : Type 0 where
 
 -- a reader's right request of them
 pub record Requested (sheet store : List ℕ) (reader : ℕ) (request : List ℕ) : Type 0 where
-  pub taken : Taken sheet store permissive
+  pub taken : Taken sheet store Permissive
   pub reader-known : reader < count (levels_of sheet)
   pub right_request : request_right (field_count sheet) request ≡ true
 

@@ -6,7 +6,8 @@ use Rattle.levels.specs.Lattice.{lattice}
 use Rattle.rules.specs.Rules.{Marking}
 use Rattle.rules.specs.Ends.{at}
 use Rattle.rules.specs.LevelMarks.{marking}
-use Rattle.store.specs.Marks.{Mark, Mode, mode_of, mark_of, mark_known}
+use Rattle.store.specs.declared.Mode.{Mode}
+use Rattle.store.specs.Marks.{Mark, mode_of, mark_of, mark_known}
 use Rattle.marks.specs.Inside.Words.{Half, Below, Place, Answers, run_in, context_in}
 
 pub record Meaning : Type 1 where

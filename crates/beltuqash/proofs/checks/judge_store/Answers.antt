@@ -6,7 +6,6 @@ use mathlib.Core.List.{List}
 use lib.ListN.{length}
 use Rattle.basis.specs.Checks.{tells}
 use Rattle.levels.specs.Levels.{count}
-use Rattle.store.specs.Marks.{mode_of}
 use Rattle.store.specs.Stores.{store_fits, marks_right}
 use Rattle.beltuqash.proofs.Checking.{few-fields, fits-long}
 use Rattle.beltuqash.proofs.checks.judge_store.Goals as goal
@@ -35,7 +34,7 @@ returns-then-not-marks_right c =
     let a = c.args in
     let count_is = ap (λ (l : List ℕ). length l / 8) c.fields.ensures in
     let fits_is = sym (c.fits.ensures ∙ ap (λ (n : ℕ). store_fits n a.store.now) count_is) in
-    let marks_are = sym (c.marks_right.ensures ∙ ap₂ (λ (rows : List ℕ) (n : ℕ). marks_right (mode_of a.mode) (count rows) n a.store.now) c.levels.ensures count_is) in
+    let marks_are = sym (c.marks_right.ensures ∙ ap₂ (λ (rows : List ℕ) (n : ℕ). marks_right a.mode (count rows) n a.store.now) c.levels.ensures count_is) in
     rw (fits_is ∙ c.if-not-fits.false, marks_are ∙ c.if-not-marks_right.true) c.refusal-then-not-marks_right.ensures
 
 pub returns : goal.returns
@@ -44,5 +43,5 @@ returns c =
     let a = c.args in
     let count_is = ap (λ (l : List ℕ). length l / 8) c.fields.ensures in
     let fits_is = sym (c.fits.ensures ∙ ap (λ (n : ℕ). store_fits n a.store.now) count_is) in
-    let marks_are = sym (c.marks_right.ensures ∙ ap₂ (λ (rows : List ℕ) (n : ℕ). marks_right (mode_of a.mode) (count rows) n a.store.now) c.levels.ensures count_is) in
+    let marks_are = sym (c.marks_right.ensures ∙ ap₂ (λ (rows : List ℕ) (n : ℕ). marks_right a.mode (count rows) n a.store.now) c.levels.ensures count_is) in
     rw (fits_is ∙ c.if-not-fits.false, marks_are ∙ c.if-not-marks_right.false) c.success.ensures
