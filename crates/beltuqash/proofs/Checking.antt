@@ -17,7 +17,7 @@ use Rattle.levels.specs.Levels.{count}
 use Rattle.sections.specs.Verdict.{verdict_number, verdict_place, Verdict}
 use Rattle.sections.specs.Sections.{fields_at, nodes_at, levels_of, fields_of, nodes_of}
 use Rattle.sections.proofs.Verdicts.{passes-is, number-some}
-use Rattle.sections.proofs.Parts.{entries-length}
+use Rattle.sections.proofs.Cuts.{entries-length}
 use Rattle.sheet.specs.Load.{field_count, load_of}
 use Rattle.sheet.specs.Inside.Loaded.{Loaded}
 use Rattle.sheet.proofs.Loading.{loaded}

@@ -10,8 +10,7 @@ ghost use Rattle.beltuqash.specs.Calls.{load, run, hand_out, Tells, Yields};
 
 use basis::answer::{pack, success};
 use basis::numbers::DONE;
-use handout::answers::HandOut;
-use handout::requests::Request;
+use sections::Parts;
 
 // Judges a sheet.
 pub fn beltuqash_load(sheet: &[u8]) -> u64
@@ -34,11 +33,11 @@ pub fn beltuqash_run(sheet: &[u8], store: &[u8], mode: u32, fuel: u32, out: &mut
 }
 
 // Hands a reader what a request asks of a store, and writes the answer.
-pub fn beltuqash_hand_out<'a>(
-    sheet: &'a [u8],
-    store: &'a [u8],
+pub fn beltuqash_hand_out(
+    sheet: &[u8],
+    store: &[u8],
     reader: u32,
-    request: &'a [u8],
+    request: &[u8],
     out: &mut [u8],
 ) -> u64
     ensures yields { Yields (hand_out sheet.now store.now reader request.now out.old) result out.new }
@@ -48,15 +47,12 @@ pub fn beltuqash_hand_out<'a>(
     if refused.number != DONE {
         return pack(refused);
     }
-    let hand_out = HandOut {
-        rows: sections::levels(sheet),
+    handout::answers::give(
+        Parts::of(sheet).levels,
         store,
-        reader: reader as usize,
-        request: Request {
-            bytes: request,
-            fields: sections::fields(sheet).len() / 8,
-        },
-    };
-    hand_out.give(out);
+        reader as usize,
+        request,
+        out,
+    );
     pack(success(0))
 }

@@ -7,22 +7,22 @@ ghost use Rattle.beltuqash.specs.Inside.Given.{Given, Comes};
 
 use basis::answer::{Answer, success};
 use marks::words;
+use sections::Parts;
 
 // Runs a sheet that passes from a store that fits it, on a work store: only a run that is done writes.
 pub fn run_from(sheet: &[u8], store: &[u8], mode: u32, fuel: u32, out: &mut [u8]) -> Answer
     requires { Given sheet.now store.now mode fuel (length out.old) }
     ensures { Comes (run_from sheet.now store.now mode fuel out.old) result out.new }
 {
-    let rows = sections::levels(sheet);
-    let nodes = sections::nodes(sheet);
-    let fields = sections::fields(sheet).len() / 8;
+    let parts = Parts::of(sheet);
+    let fields = parts.fields.len() / 8;
     let mut work = [0u64; 64];
     flow::work::fetch(store, &mut work, fields);
-    let task = marks::first_task(rows, mode);
+    let task = marks::first_task(parts.levels, mode);
     let word = flow::commands::run(
-        &[rows, sections::constants(sheet), nodes],
+        &[parts.levels, parts.constants, parts.nodes],
         &mut work,
-        nodes.len() / 8 - 1,
+        parts.nodes.len() / 8 - 1,
         task,
         fuel,
     );

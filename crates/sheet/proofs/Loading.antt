@@ -22,7 +22,7 @@ use Rattle.sheet.specs.Inside.Loaded.{Loaded}
 use Rattle.sections.specs.declared.verdict.SheetError.{SheetError}
 use Rattle.sections.specs.declared.verdict.SheetError.TheVariants.{Levels, Name, Uses, Depth}
 use Rattle.sections.proofs.Verdicts.{both_pass, told-right, Placed, told-placed, then_placed}
-use Rattle.sections.proofs.Parts.{entries-length, sections_pass, sections-placed}
+use Rattle.sections.proofs.Cuts.{entries-length, sections_pass, sections-placed}
 use Rattle.nodes.proofs.Judged.{nodes-placed, well_formed}
 
 module _ (sheet : List ℕ) where

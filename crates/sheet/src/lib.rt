@@ -8,6 +8,7 @@ ghost use Rattle.sheet.specs.Load.{load_of};
 
 use levels::Levels;
 use nodes::uses;
+use sections::Parts;
 use sections::verdict::SheetError;
 
 /// Judges a sheet: the first check that refuses it, or none.
@@ -15,25 +16,28 @@ pub fn load(sheet: &[u8]) -> Result<(), SheetError>
     ensures { result ≡ load_of sheet.now }
 {
     sections::judge_sections(sheet)?;
-    if Levels::new(sections::levels(sheet)).is_none() {
+    let parts = Parts::of(sheet);
+    if Levels::new(parts.levels).is_none() {
         return Err(SheetError::Levels);
     }
-    let fields = sections::fields(sheet);
-    if !names::names_right(fields) {
+    if !names::names_right(parts.fields) {
         return Err(SheetError::Name);
     }
-    let constants = sections::constants(sheet);
-    let nodes = sections::nodes(sheet);
     let mut used = [0u8; 1024];
-    nodes::judge_nodes(nodes, fields.len() / 8, constants.len() / 4, &mut used)?;
-    let last = nodes.len() / 8 - 1;
+    nodes::judge_nodes(
+        parts.nodes,
+        parts.fields.len() / 8,
+        parts.constants.len() / 4,
+        &mut used,
+    )?;
+    let last = parts.nodes.len() / 8 - 1;
     if !uses::all_once(&used, last) {
         return Err(SheetError::Uses);
     }
-    if nodes::kind_of(nodes, last) <= 4 {
+    if nodes::kind_of(parts.nodes, last) <= 4 {
         return Err(SheetError::Uses);
     }
-    if !depth::fits(&nodes, last, 64) {
+    if !depth::fits(&parts.nodes, last, 64) {
         return Err(SheetError::Depth);
     }
     Ok(())

@@ -19,24 +19,24 @@ use Rattle.sheet.proofs.load.Goals.{In_ok-judge_nodes, Else-not-all_once, Else-k
 passed : (c : In_ok-judge_nodes) → NodesPass c.args.sheet.now
 passed c = record {
   layout = sym c.in_ok-judge_sections.ensures;
-  levels = sym (rw c.levels.ensures at c.new.ensures.judged) ∙ c.is_none.ensures ∙ ap not c.if-is_none.false;
-  names = rw c.fields-fields.ensures at (sym c.if-not-names_right.ensures);
-  nodes = sym (rw (c.nodes-nodes.ensures, c.constants-constants.ensures, c.fields-fields.ensures) at c.in_ok-judge_nodes.ensures.0);
+  levels = sym (rw c.of-parts.ensures.levels at c.new.ensures.judged) ∙ c.is_none.ensures ∙ ap not c.if-is_none.false;
+  names = rw c.of-parts.ensures.fields at (sym c.if-not-names_right.ensures);
+  nodes = sym (rw (c.of-parts.ensures.nodes, c.of-parts.ensures.constants, c.of-parts.ensures.fields) at c.in_ok-judge_nodes.ensures.0);
 }
 
 -- the nodes' part has a last node
-last_in : (c : In_ok-judge_nodes) → (1 ≤ node_count c.nodes-nodes.result.now) × In c.nodes-nodes.result.now (last_of c.nodes-nodes.result.now) × (node_count c.nodes-nodes.result.now ≤ 1024)
+last_in : (c : In_ok-judge_nodes) → (1 ≤ node_count c.of-parts.result.nodes.now) × In c.of-parts.result.nodes.now (last_of c.of-parts.result.nodes.now) × (node_count c.of-parts.result.nodes.now ≤ 1024)
 last_in c =
-    let some : 8 ≤ length c.nodes-nodes.result.now = rw c.nodes-nodes.ensures (formed _ (passed c)).some-node in
-    let few : length c.nodes-nodes.result.now ≤ 8192 = rw c.nodes-nodes.ensures (formed _ (passed c)).few in
+    let some : 8 ≤ length c.of-parts.result.nodes.now = rw c.of-parts.ensures.nodes (formed _ (passed c)).some-node in
+    let few : length c.of-parts.result.nodes.now ≤ 8192 = rw c.of-parts.ensures.nodes (formed _ (passed c)).few in
     (omega arith, omega arith, omega arith)
 
 -- each node but the last is a child once, and the last is a command
 once : (c : Else-not-all_once) → used_once (nodes_of c.args.sheet.now) ≡ true
-once c = sym (c.if-not-all_once.ensures ∙ all-counted (c.in_ok-judge_nodes.ensures.1 refl) ∙ ap used_once c.nodes-nodes.ensures)
+once c = sym (c.if-not-all_once.ensures ∙ all-counted (c.in_ok-judge_nodes.ensures.1 refl) ∙ ap used_once c.of-parts.ensures.nodes)
 
 command : (c : Else-kind_of-le4) → 4 < kind_at (nodes_of c.args.sheet.now) (last_of (nodes_of c.args.sheet.now))
-command c = rw (rw c.nodes-nodes.ensures at c.kind_of.ensures) at c.if-kind_of-le4.false
+command c = rw (rw c.of-parts.ensures.nodes at c.kind_of.ensures) at c.if-kind_of-le4.false
 
 -- how deep the last node's tree is
 depth_is : (c : Else-kind_of-le4) → leb (depth_at (constants_of c.args.sheet.now) (nodes_of c.args.sheet.now) (last_of (nodes_of c.args.sheet.now))) 64 ≡ leb (cmd_depth (program_of c.args.sheet.now)) 64
@@ -48,23 +48,23 @@ returns-in_err-judge_sections c =
     rw (p.1, p.2) (layout_told _ (sym c.in_err-judge_sections.ensures))
 
 pub returns-then-is_none : goal.returns-then-is_none
-returns-then-is_none c = levels-told _ (sym c.in_ok-judge_sections.ensures) (sym (rw c.levels.ensures at c.new.ensures.judged) ∙ c.is_none.ensures ∙ ap not c.if-is_none.true)
+returns-then-is_none c = levels-told _ (sym c.in_ok-judge_sections.ensures) (sym (rw c.of-parts.ensures.levels at c.new.ensures.judged) ∙ c.is_none.ensures ∙ ap not c.if-is_none.true)
 
 pub returns-then-not-names_right : goal.returns-then-not-names_right
 returns-then-not-names_right c =
-    names-told _ (sym c.in_ok-judge_sections.ensures) (sym (rw c.levels.ensures at c.new.ensures.judged) ∙ c.is_none.ensures ∙ ap not c.if-is_none.false) (rw c.fields-fields.ensures at (sym c.if-not-names_right.ensures))
+    names-told _ (sym c.in_ok-judge_sections.ensures) (sym (rw c.of-parts.ensures.levels at c.new.ensures.judged) ∙ c.is_none.ensures ∙ ap not c.if-is_none.false) (rw c.of-parts.ensures.fields at (sym c.if-not-names_right.ensures))
 
 pub judge_nodes-requires : goal.judge_nodes-requires
 judge_nodes-requires c =
-    let few : length c.nodes-nodes.result.now ≤ 8192 = rw c.nodes-nodes.ensures (nodes-length _ (sym c.in_ok-judge_sections.ensures)).1 in
+    let few : length c.of-parts.result.nodes.now ≤ 8192 = rw c.of-parts.ensures.nodes (nodes-length _ (sym c.in_ok-judge_sections.ensures)).1 in
     (omega arith, zeros 1024)
 
 pub returns-in_err-judge_nodes : goal.returns-in_err-judge_nodes
 returns-in_err-judge_nodes c =
-    let told = sym (rw (c.nodes-nodes.ensures, c.constants-constants.ensures, c.fields-fields.ensures) at c.in_err-judge_nodes.ensures.0) in
+    let told = sym (rw (c.of-parts.ensures.nodes, c.of-parts.ensures.constants, c.of-parts.ensures.fields) at c.in_err-judge_nodes.ensures.0) in
     let p = err_from_is_err_and c.from_residual-in_err-judge_nodes.result c.from_residual-in_err-judge_nodes.ensures.1 in
     rw (p.1, p.2)
-    (nodes-told _ (sym c.in_ok-judge_sections.ensures) (sym (rw c.levels.ensures at c.new.ensures.judged) ∙ c.is_none.ensures ∙ ap not c.if-is_none.false) (rw c.fields-fields.ensures at (sym c.if-not-names_right.ensures)) told)
+    (nodes-told _ (sym c.in_ok-judge_sections.ensures) (sym (rw c.of-parts.ensures.levels at c.new.ensures.judged) ∙ c.is_none.ensures ∙ ap not c.if-is_none.false) (rw c.of-parts.ensures.fields at (sym c.if-not-names_right.ensures)) told)
 
 pub overflow_sub-last : goal.overflow_sub-last
 overflow_sub-last c = (last_in (goal.at.overflow_sub-last c).In_ok-judge_nodes).0
@@ -74,7 +74,7 @@ all_once-requires c = omega (arith, (last_in (goal.at.all_once-requires c).In_ok
 
 pub returns-then-not-all_once : goal.returns-then-not-all_once
 returns-then-not-all_once c =
-    let once = sym (c.if-not-all_once.ensures ∙ all-counted (c.in_ok-judge_nodes.ensures.1 refl) ∙ ap used_once c.nodes-nodes.ensures) in
+    let once = sym (c.if-not-all_once.ensures ∙ all-counted (c.in_ok-judge_nodes.ensures.1 refl) ∙ ap used_once c.of-parts.ensures.nodes) in
     unused_told _ (passed (goal.at.returns-then-not-all_once c).In_ok-judge_nodes) once
 
 pub kind_of-requires : goal.kind_of-requires
@@ -83,21 +83,21 @@ kind_of-requires c = (last_in (goal.at.kind_of-requires c).In_ok-judge_nodes).1
 pub returns-then-kind_of-le4 : goal.returns-then-kind_of-le4
 returns-then-kind_of-le4 c =
     let at = goal.at.returns-then-kind_of-le4 c in
-    expression_told _ (passed at.In_ok-judge_nodes) (once at.Else-not-all_once) (le-ltb 4 _ (rw (rw c.nodes-nodes.ensures at c.kind_of.ensures) at c.if-kind_of-le4.true))
+    expression_told _ (passed at.In_ok-judge_nodes) (once at.Else-not-all_once) (le-ltb 4 _ (rw (rw c.of-parts.ensures.nodes at c.kind_of.ensures) at c.if-kind_of-le4.true))
 
 pub fits-requires : goal.fits-requires
 fits-requires c =
     let ok = (goal.at.fits-requires c).In_ok-judge_nodes in
-    record { formed = rw c.nodes-nodes.ensures (formed _ (passed ok)); inside = (last_in ok).1 }
+    record { formed = rw c.of-parts.ensures.nodes (formed _ (passed ok)); inside = (last_in ok).1 }
 
 pub returns-then-not-fits : goal.returns-then-not-fits
 returns-then-not-fits c =
     let at = goal.at.returns-then-not-fits c in
-    let depth = rw c.nodes-nodes.ensures at (c.if-not-fits.ensures (constants_of c.args.sheet.now)) in
+    let depth = rw c.of-parts.ensures.nodes at (c.if-not-fits.ensures (constants_of c.args.sheet.now)) in
     depth-told _ (passed at.In_ok-judge_nodes) (once at.Else-not-all_once) (lt-ltb 4 _ (command at.Else-kind_of-le4)) (sym (depth ∙ depth_is at.Else-kind_of-le4))
 
 pub returns : goal.returns
 returns c =
     let at = goal.at.returns c in
-    let depth = rw c.nodes-nodes.ensures at (c.if-not-fits.ensures (constants_of c.args.sheet.now)) in
+    let depth = rw c.of-parts.ensures.nodes at (c.if-not-fits.ensures (constants_of c.args.sheet.now)) in
     none_told _ (passed at.In_ok-judge_nodes) (once at.Else-not-all_once) (lt-ltb 4 _ (command at.Else-kind_of-le4)) (sym (depth ∙ depth_is at.Else-kind_of-le4))

@@ -31,8 +31,8 @@ done_so sheet store mode fuel {work} {after} {task} {word} r c n same first ran 
 pub returns : goal.returns
 unfolding ended
 returns c =
-    let done = done_so _ _ _ _ c.levels-rows.ensures c.constants.ensures c.nodes-nodes.ensures c.fetch.ensures.is c.first_task-task.ensures c.run-word.ensures in
-    let count_is = ap (λ (l : List ℕ). length l / 8) c.fields.ensures in
+    let done = done_so _ _ _ _ c.of-parts.ensures.levels c.of-parts.ensures.constants c.of-parts.ensures.nodes c.fetch.ensures.is c.first_task-task.ensures c.run-word.ensures in
+    let count_is = ap (λ (l : List ℕ). length l / 8) c.of-parts.ensures.fields in
     let is = runs_done done c.if-word-ge-STOP.false c.args.out.now in (
       rw c.left_in.ensures at c.success.ensures ∙ ap (λ (x : Outcome). x.answer) (sym is),
       rw count_is at c.deliver.ensures ∙ ap (λ (x : Outcome). x.out) (sym is),
@@ -40,39 +40,39 @@ returns c =
 
 pub fetch-requires : goal.fetch-requires
 fetch-requires c =
-    let count_is = ap (λ (l : List ℕ). length l / 8) c.fields.ensures in
+    let count_is = ap (λ (l : List ℕ). length l / 8) c.of-parts.ensures.fields in
     rw count_is (few-fields _ c.requires.taken.loaded, fits-long _ _ c.requires.taken.fits, refl)
 
 pub first_task-task-requires : goal.first_task-task-requires
-first_task-task-requires c = (rw c.levels-rows.ensures c.requires.taken.loaded.levels, c.requires.mode_known)
+first_task-task-requires c = (rw c.of-parts.ensures.levels c.requires.taken.loaded.levels, c.requires.mode_known)
 
-pub overflow_sub-nodes : goal.overflow_sub-nodes
-overflow_sub-nodes c = omega (arith, ap length c.nodes-nodes.ensures, (nodes-long _ c.requires.taken.loaded).0)
+pub overflow_sub-parts : goal.overflow_sub-parts
+overflow_sub-parts c = omega (arith, ap length c.of-parts.ensures.nodes, (nodes-long _ c.requires.taken.loaded).0)
 
 pub run-word-requires : goal.run-word-requires
 run-word-requires c =
     moved (λ rows constants nodes. CmdIn (rows ∷ constants ∷ nodes ∷ []) c.fetch.new.work (last_of nodes) c.first_task-task.result)
-    (sym c.levels-rows.ensures) (sym c.constants.ensures) (sym c.nodes-nodes.ensures)
-    (task_in c.requires c.fetch.ensures (rw c.levels-rows.ensures at c.first_task-task.ensures))
+    (sym c.of-parts.ensures.levels) (sym c.of-parts.ensures.constants) (sym c.of-parts.ensures.nodes)
+    (task_in c.requires c.fetch.ensures (rw c.of-parts.ensures.levels at c.first_task-task.ensures))
 
 pub stopped-requires : goal.stopped-requires
 stopped-requires c =
-    let done = done_so _ _ _ _ c.levels-rows.ensures c.constants.ensures c.nodes-nodes.ensures c.fetch.ensures.is c.first_task-task.ensures c.run-word.ensures in
+    let done = done_so _ _ _ _ c.of-parts.ensures.levels c.of-parts.ensures.constants c.of-parts.ensures.nodes c.fetch.ensures.is c.first_task-task.ensures c.run-word.ensures in
     (done.ran.told c.if-word-ge-STOP.true, left-stopped done c.if-word-ge-STOP.true)
 
 pub returns-then-word-ge-STOP : goal.returns-then-word-ge-STOP
 returns-then-word-ge-STOP c =
-    let done = done_so _ _ _ _ c.levels-rows.ensures c.constants.ensures c.nodes-nodes.ensures c.fetch.ensures.is c.first_task-task.ensures c.run-word.ensures in
+    let done = done_so _ _ _ _ c.of-parts.ensures.levels c.of-parts.ensures.constants c.of-parts.ensures.nodes c.fetch.ensures.is c.first_task-task.ensures c.run-word.ensures in
     let is = runs-stopped done c.if-word-ge-STOP.true c.args.out.now in
     (c.stopped.ensures _ _ ∙ ap (λ (x : Outcome). x.answer) (sym is), sym (ap (λ (x : Outcome). x.out) is ∙ stop_out _ _ (done.ran.told c.if-word-ge-STOP.true) _ _))
 
 pub deliver-requires : goal.deliver-requires
 deliver-requires c =
-    let done = done_so _ _ _ _ c.levels-rows.ensures c.constants.ensures c.nodes-nodes.ensures c.fetch.ensures.is c.first_task-task.ensures c.run-word.ensures in
-    let count_is = ap (λ (l : List ℕ). length l / 8) c.fields.ensures in
+    let done = done_so _ _ _ _ c.of-parts.ensures.levels c.of-parts.ensures.constants c.of-parts.ensures.nodes c.fetch.ensures.is c.first_task-task.ensures c.run-word.ensures in
+    let count_is = ap (λ (l : List ℕ). length l / 8) c.of-parts.ensures.fields in
     rw count_is (few-fields _ c.requires.taken.loaded, c.requires.room-is, marks-few done)
 
 pub overflow_sub-fuel : goal.overflow_sub-fuel
 overflow_sub-fuel c =
-    let done = done_so _ _ _ _ c.levels-rows.ensures c.constants.ensures c.nodes-nodes.ensures c.fetch.ensures.is c.first_task-task.ensures c.run-word.ensures in
+    let done = done_so _ _ _ _ c.of-parts.ensures.levels c.of-parts.ensures.constants c.of-parts.ensures.nodes c.fetch.ensures.is c.first_task-task.ensures c.run-word.ensures in
     omega (arith, c.left_in.ensures, left-done done c.if-word-ge-STOP.false)

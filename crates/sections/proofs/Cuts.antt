@@ -8,7 +8,7 @@ use mathlib.Core.List.{List}
 use borrow.Author.Tests.{leb-true, leb-false, eqb-true, le-leb, lt-leb}
 use lib.Dec.{leb, eqb}
 use lib.ListN.{length, take, drop, length-take, length-drop, drop_of_length-le}
-use lib.Seq.{take_all, take-nil, drop-length}
+use lib.Seq.{take_all, take-nil}
 use Rattle.basis.proofs.Tests.{both, split}
 use Rattle.sections.specs.Verdict.{◌then◌}
 use Rattle.sections.specs.Sections.{count_of, section_end, entries_of, section_verdict, sections_verdict, fields_at, constants_at, nodes_at, end_at}
@@ -25,12 +25,9 @@ few_bytes count size h k =
     let p : count * size ≤ 65535 * 255 = mul-le-mul c s in
     omega arith
 
--- the part from an offset to the end is the rest, and past the end nothing is left
+-- the part from an offset to the end is the rest
 pub rest-is : (s : List ℕ) (at : ℕ) → take (length s - at) (drop at s) ≡ drop at s
 rest-is s at = take_all (length s - at) (drop at s) (omega (arith, length-drop at s))
-
-pub rest-past : (s : List ℕ) (at : ℕ) → length s ≤ at → take (length s - length s) (drop (length s) s) ≡ drop at s
-rest-past s at h = rest-is s (length s) ∙ drop-length s ∙ sym (drop_of_length-le s h)
 
 -- two parts that would run past the end are one
 take_past : (a b : ℕ) (l : List ℕ) → length l ≤ a → length l ≤ b → take a l ≡ take b l
@@ -42,7 +39,7 @@ module _ (size : ℕ) (rest : List ℕ) where
   end_least = omega arith
 
   -- the part from the count to the section's end, or to the rest's, is the section's entries
-  pub entries-part : (end : ℕ) → end ≡ min (section_end size rest) (length rest) → 2 ≤ end → take (end - 2) (drop 2 rest) ≡ entries_of size rest
+  entries-part : (end : ℕ) → end ≡ min (section_end size rest) (length rest) → 2 ≤ end → take (end - 2) (drop 2 rest) ≡ entries_of size rest
   unfolding entries_of section_end
   entries-part end e h =
       split (leb (section_end size rest) (length rest))
@@ -55,13 +52,19 @@ module _ (size : ℕ) (rest : List ℕ) where
       take_past (end - 2) (count_of rest * size) (drop 2 rest) (omega (arith, length-drop 2 rest)) (omega (arith, length-drop 2 rest)))
 
   -- where not even the count is whole, there are none
-  pub entries_none : (end : ℕ) → end ≡ min (section_end size rest) (length rest) → end < 2 → take (length rest - end) (drop end rest) ≡ entries_of size rest
+  entries_none : (end : ℕ) → end ≡ min (section_end size rest) (length rest) → end < 2 → take (end - end) (drop end rest) ≡ entries_of size rest
   unfolding entries_of section_end
   entries_none end e h =
-      let all : end ≡ length rest = omega arith in
       let short : length rest ≤ 2 = omega arith in
       let past : length rest ≤ end = omega arith in
-      rest-is rest end ∙ drop_of_length-le rest past ∙ sym (ap (take (count_of rest * size)) (drop_of_length-le rest short) ∙ take-nil (count_of rest * size))
+      ap (take (end - end)) (drop_of_length-le rest past) ∙ take-nil (end - end)
+      ∙ sym (ap (take (count_of rest * size)) (drop_of_length-le rest short) ∙ take-nil (count_of rest * size))
+
+  pub entries-is : (end : ℕ) → end ≡ min (section_end size rest) (length rest) → take (end - min end 2) (drop (min end 2) rest) ≡ entries_of size rest
+  entries-is end e =
+      split (leb 2 end)
+      (λ t. let from : min end 2 ≡ 2 = omega (arith, leb-true 2 end t) in rw from (entries-part end e (leb-true 2 end t)))
+      (λ t. let from : min end 2 ≡ end = omega (arith, leb-false 2 end t) in rw from (entries_none end e (leb-false 2 end t)))
 
   -- a section's part has as many bytes as its entries
   pub entries-length : section_end size rest ≤ length rest → length (entries_of size rest) ≡ count_of rest * size
