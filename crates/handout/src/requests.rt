@@ -45,7 +45,8 @@ impl<'a> Request<'a> {
 // What the first two bytes say.
 fn count(bytes: &[u8]) -> usize
     requires { 2 ≤ length bytes.now }
-    ensures { (result ≡ asked_count bytes.now) × (result < 65536) }
+    ensures asked { result ≡ asked_count bytes.now }
+    ensures word { result < 65536 }
 {
     basis::word(bytes, 0) as usize
 }
@@ -53,7 +54,8 @@ fn count(bytes: &[u8]) -> usize
 // The field number at a position of bytes that are as long.
 fn field_at(bytes: &[u8], position: usize) -> usize
     requires { request_length (position + 1) ≤ length bytes.now }
-    ensures { (result ≡ field_asked bytes.now position) × (result < 65536) }
+    ensures asked { result ≡ field_asked bytes.now position }
+    ensures word { result < 65536 }
 {
     basis::word(bytes, 2 + position * 2) as usize
 }

@@ -3,7 +3,6 @@ use native.Mathlib.Omega.{arith}
 use Prim.Native.Nat.{ℕ, ◌+◌, ◌%◌, ◌<◌}
 use mathlib.Core.Path.{◌≡◌, sym, ap, ap₂, ◌∙◌}
 use mathlib.Core.List.{List, ◌∷◌}
-use lib.ListN.{length-set}
 use lib.Seq.{sets}
 use Rattle.std.proofs.lemmas.List.{get_or-take}
 use Rattle.value.specs.Bytes.{bytes_of}
@@ -15,9 +14,6 @@ use Rattle.basis.proofs.Filling.{headed, headed_length, filled, fill_first, fill
 use Rattle.store.proofs.Entries.{entry_length_lem, no_entries, one_entry_more, entries-length}
 use Rattle.flow.proofs.Fetching.{word_entry}
 use Rattle.flow.proofs.work.deliver.Goals as goal
-
-pub bounds-out-1 : goal.bounds-out-1
-bounds-out-1 c = simp length-set (omega arith)
 
 pub loop-field-init : goal.loop-field-init
 loop-field-init c =

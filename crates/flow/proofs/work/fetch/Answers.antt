@@ -8,9 +8,6 @@ use Rattle.store.specs.Stores.{cell_at}
 use Rattle.flow.proofs.Fetching.{filled_more, fetched}
 use Rattle.flow.proofs.work.fetch.Goals as goal
 
-pub loop-field-init : goal.loop-field-init
-loop-field-init c = λ j h. absurd (omega arith)
-
 pub loop-field-preserved : goal.loop-field-preserved
 unfolding cell_at
 loop-field-preserved c =

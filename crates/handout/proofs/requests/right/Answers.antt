@@ -23,6 +23,6 @@ pub returns : goal.returns
 returns c =
     let request = c.args.bytes.now in
     let P : ℕ → Bool = λ i. ltb (field_asked request i) c.args.fields in
-    let count = c.count-count.ensures.0 in
+    let count = c.count-count.ensures.asked in
     let known = all_tested c.count-count.result P _ (cases_from_all _ _ _ (λ i. P i ≡ true) (λ i. P i ≡ false) c.all.ensures.ran (YieldsList-from_range 0 _ _ refl (sub-zero _)) (λ x q k. search (rules, tests)) (λ x q k. search (rules, tests))) in
     rw count at known ∙ sym (right_by_fields c.args.fields request (omega arith) (omega arith))
