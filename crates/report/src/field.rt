@@ -38,7 +38,7 @@ fn put_name(out: &mut [u8], at: usize, fields: &[u8], i: usize) -> usize
 fn put_mark(out: &mut [u8], at: usize, mark: u32) -> usize
     ensures { Put out.old out.new at (mark_text (mark_of mark)) result }
 {
-    let level = put_part(out, at, store::level_of(mark) as u32);
+    let level = put_part(out, at, store::level_said(mark));
     if store::is_partial(mark) {
         return put_text(out, level, b" partial");
     }

@@ -1,5 +1,5 @@
 -- Stores as bytes: document 01, "A store is a count, then per field one mark byte and a signed 4-byte value".
-use Rattle.std.specs.Prelude.{ℕ, zero, suc, ◌+◌, ◌*◌, ◌%◌, Bool, ◌&&◌, List, [], ◌∷◌, ◌++◌, length, get_or, drop, eqb}
+use Rattle.std.specs.Prelude.{ℕ, zero, suc, ◌+◌, ◌*◌, ◌%◌, ◌≤◌, Bool, ◌&&◌, List, [], ◌∷◌, ◌++◌, length, get_or, drop, eqb}
 use Rattle.basis.specs.Bytes.{word_at}
 use Rattle.basis.specs.Tests.{all}
 use Rattle.value.specs.Bytes.{bytes_of, value_at}
@@ -17,6 +17,10 @@ entry_at i = 2 + i * entry_length
 
 abbrev pub store_length : ℕ → ℕ
 store_length fields = 2 + fields * entry_length
+
+-- a store long enough for field i
+abbrev pub FieldIn : List ℕ → ℕ → Type 0
+FieldIn s i = store_length (i + 1) ≤ length s
 
 -- one mark byte and a signed 4-byte value
 abbrev pub mark_at : List ℕ → ℕ → ℕ

@@ -2,11 +2,11 @@
 // read, a field written. No other crate knows how an entry lies in the bytes.
 #![tactic(auto)]
 
-ghost use Rattle.std.specs.Prelude.{◌≡◌, ◌∷◌, ◌+◌, ◌≤◌, ◌<◌, length};
+ghost use Rattle.std.specs.Prelude.{◌≡◌, ◌∷◌, ◌≤◌, ◌<◌, length};
 ghost use Rattle.std.proofs.lemmas.List.Edits.{sets};
 ghost use Rattle.value.specs.Bytes.{bytes_of};
 ghost use Rattle.store.specs.Marks.{level_of, is_partial, partial, mark_of, mode_of, mark_taken};
-ghost use Rattle.store.specs.Stores.{entry_at, store_length, mark_at, value_of, store_fits, marks_right};
+ghost use Rattle.store.specs.Stores.{FieldIn, entry_at, store_length, mark_at, value_of, store_fits, marks_right};
 
 use value::Value;
 
@@ -57,15 +57,24 @@ impl Mode {
 
 // ── marks ───────────────────────────────────────────────────────────────────────────────────
 
-/// The level of a mark, and what any byte above 31 says, which no run takes.
+/// The level of a mark.
 #[tactic(auto, unfolding(crate::specs::Marks::mark_of))]
 pub fn level_of(mark: u32) -> usize
-    ensures { (result ≡ level_of (mark_of mark)) × (mark < 32 → result < 16) × (result ≤ mark) }
+    requires { mark < 32 }
+    ensures { (result ≡ level_of (mark_of mark)) × (result < 16) }
 {
-    let level = if mark < PARTIAL { mark } else { mark - PARTIAL };
-    level as usize
+    (mark % PARTIAL) as usize
 }
 
+/// The level that any byte says, also one above 31, which no run takes. In place of `level_of` it costs a run up to 7 instructions a unit.
+#[tactic(auto, unfolding(crate::specs::Marks::mark_of))]
+pub fn level_said(mark: u32) -> u32
+    ensures { result ≡ level_of (mark_of mark) }
+{
+    if mark < PARTIAL { mark } else { mark - PARTIAL }
+}
+
+/// Whether a mark is partial, by its byte.
 #[tactic(auto, unfolding(crate::specs::Marks::mark_of))]
 pub fn is_partial(mark: u32) -> bool
     ensures { result ≡ is_partial (mark_of mark) }
@@ -83,6 +92,7 @@ pub fn partial_at(level: usize) -> u32
 }
 
 // ── stores ──────────────────────────────────────────────────────────────────────────────────
+// A store stays a slice: a struct of it would be made anew behind the checks, in a run, a hand-out and a report, each time from the fact asked here.
 
 /// How long a store of so many fields is.
 pub fn length(fields: usize) -> usize
@@ -103,7 +113,7 @@ pub fn fits(store: &[u8], fields: usize) -> bool
 
 /// Field i's mark.
 pub fn mark_at(store: &[u8], i: usize) -> u32
-    requires { store_length (i + 1) ≤ length store.now }
+    requires { FieldIn store.now i }
     ensures { (result ≡ mark_at store.now i) × (result < 256) }
 {
     u32::from(store[2 + i * ENTRY])
@@ -111,7 +121,7 @@ pub fn mark_at(store: &[u8], i: usize) -> u32
 
 /// Field i's value.
 pub fn value_at(store: &[u8], i: usize) -> Value
-    requires { store_length (i + 1) ≤ length store.now }
+    requires { FieldIn store.now i }
     ensures { result ≡ value_of store.now i }
 {
     Value::read(store, 2 + i * ENTRY + 1)
@@ -127,7 +137,7 @@ pub fn marks_right(store: &[u8], mode: Mode, levels: usize, fields: usize) -> bo
 
 /// Writes field i's entry.
 pub fn put_field(out: &mut [u8], i: usize, mark: u32, v: Value)
-    requires { (store_length (i + 1) ≤ length out.old) × (mark < 256) }
+    requires { FieldIn out.old i × (mark < 256) }
     ensures { out.new ≡ sets out.old (entry_at i) (mark ∷ bytes_of v.n) }
 {
     let at = 2 + i * ENTRY;

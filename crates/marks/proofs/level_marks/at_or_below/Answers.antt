@@ -4,6 +4,9 @@ use Rattle.store.proofs.Marks.{known_is}
 use Rattle.marks.proofs.Marking.{order-at}
 use Rattle.marks.proofs.level_marks.at_or_below.Goals as goal
 
+pub level_of-requires : goal.level_of-requires
+level_of-requires c = (known_is _ _ c.requires.mark).0
+
 pub at_or_below-requires : goal.at_or_below-requires
 at_or_below-requires c =
     let p = c.requires in

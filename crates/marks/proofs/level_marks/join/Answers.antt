@@ -19,6 +19,12 @@ returns-then-m-k c =
     let m = c.args.m in
     (joined_same rows m c.requires.order c.requires.first ∙ ap (λ (k : ℕ). joined (lattice rows) (mark_of m) (mark_of k)) c.if-m-k.true, c.requires.first)
 
+pub level_of-requires : goal.level_of-requires
+level_of-requires c = (known_is _ _ c.requires.first).0
+
+pub level_of-requires-2 : goal.level_of-requires-2
+level_of-requires-2 c = (known_is _ _ c.requires.second).0
+
 pub join-level-requires : goal.join-level-requires
 join-level-requires c =
     (rw c.level_of.ensures.0 (known_is _ _ c.requires.first).1, rw c.level_of-2.ensures.0 (known_is _ _ c.requires.second).1)

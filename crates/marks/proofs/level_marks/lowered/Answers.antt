@@ -14,6 +14,9 @@ returns c =
     let (made, few) = c.partial_at.ensures in
     (made ∙ ap partial (is ∙ sym (meet-level _ _ _ p.mark p.context-known)), known_at _ _ made few c.meet.ensures.1)
 
+pub level_of-requires : goal.level_of-requires
+level_of-requires c = (known_is _ _ c.requires.mark).0
+
 pub meet-requires : goal.meet-requires
 meet-requires c =
     let p = c.requires in

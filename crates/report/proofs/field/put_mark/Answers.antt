@@ -7,9 +7,9 @@ use Rattle.report.proofs.field.put_mark.Goals as goal
 pub returns-then-is_partial : goal.returns-then-is_partial
 returns-then-is_partial c =
     let says = sym c.is_partial.ensures ∙ c.if-is_partial.true in
-    put_as (partial_text _ c.level_of.ensures.0 says) (c.put_part-level.ensures then c.put_text.ensures)
+    put_as (partial_text _ c.level_said.ensures says) (c.put_part-level.ensures then c.put_text.ensures)
 
 pub returns : goal.returns
 returns c =
     let says = sym c.is_partial.ensures ∙ c.if-is_partial.false in
-    put_as (whole_text _ c.level_of.ensures.0 says) (c.put_part-level.ensures then c.put_text-2.ensures)
+    put_as (whole_text _ c.level_said.ensures says) (c.put_part-level.ensures then c.put_text-2.ensures)
