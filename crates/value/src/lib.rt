@@ -184,13 +184,13 @@ impl Value {
     pub fn and(self, right: Value) -> Value
         ensures { result ≡ and_of self right }
     {
-        Value::from(self.is_true() & right.is_true())
+        Value::from(self.is_true() && right.is_true())
     }
 
     pub fn or(self, right: Value) -> Value
         ensures { result ≡ or_of self right }
     {
-        Value::from(self.is_true() | right.is_true())
+        Value::from(self.is_true() || right.is_true())
     }
 
     pub fn not(self) -> Value
