@@ -4,7 +4,7 @@ ghost use Rattle.levels.specs.Lattice.{lattice};
 ghost use Rattle.store.specs.Marks.{level_of, mark_of};
 ghost use Rattle.store.specs.Stores.{mark_at, store_of};
 ghost use Rattle.handout.specs.Requests.{asked_count};
-ghost use Rattle.handout.specs.Answers.{answer_length, shown, refuses, first_refusing};
+ghost use Rattle.handout.specs.Answers.{answer_entry, answer_length, shown, refuses, first_refusing};
 ghost use Rattle.handout.specs.Inside.Asks.{AsksAs, answer_given};
 
 use crate::requests::Request;
@@ -57,17 +57,18 @@ impl<'a> HandOut<'a> {
         (0..self.request.count()).find(|&position| self.refuses(self.request.field(position)))
     }
 
-    // The entry of a field that does not refuse: 1 and the value if its level lies at or below the reader, else 0 and value 0.
-    fn entry(&self, field: usize) -> [u8; ENTRY]
+    // Writes the entry of a field that does not refuse: 1 and the value if its level lies at or below the reader, else 0 and value 0.
+    fn show(&self, field: usize, entry: &mut [u8])
         requires known { field < self.now.request.fields }
         requires passes { refuses (lattice self.now.levels.rows.now) self.now.reader (store_of self.now.store.now field) ≡ false }
-        ensures { result ≡ shown (lattice self.now.levels.rows.now) self.now.reader (store_of self.now.store.now field) }
+        requires size { length entry.old ≡ answer_entry }
+        ensures { entry.new ≡ shown (lattice self.now.levels.rows.now) self.now.reader (store_of self.now.store.now field) }
     {
         if self.at_or_below(field) {
-            let [b0, b1, b2, b3] = value_at(self.store, field).to_bytes();
-            [1, b0, b1, b2, b3]
+            entry[0] = 1;
+            value_at(self.store, field).write(entry, 1);
         } else {
-            [0; ENTRY]
+            entry.fill(0);
         }
     }
 
@@ -82,8 +83,7 @@ impl<'a> HandOut<'a> {
         out[1] = 0;
         for position in 0..count {
             let at = 2 + position * ENTRY;
-            let field = self.request.field(position);
-            out[at..at + ENTRY].copy_from_slice(&self.entry(field));
+            self.show(self.request.field(position), &mut out[at..at + ENTRY]);
         }
     }
 }

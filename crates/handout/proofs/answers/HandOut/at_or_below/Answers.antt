@@ -7,6 +7,9 @@ use Rattle.store.specs.Marks.{level_of, mark_of}
 use Rattle.store.proofs.Marks.{known_is, marks-known}
 use Rattle.handout.proofs.answers.HandOut.at_or_below.Goals as goal
 
+pub level_of-requires : goal.level_of-requires
+level_of-requires c = rw c.mark_at.ensures.0 (known_is _ _ (marks-known Permissive _ _ _ c.args.self.now.asks.marks _ c.requires)).0
+
 -- the level that was asked about is the field's
 pub at_or_below-requires : goal.at_or_below-requires
 at_or_below-requires c =

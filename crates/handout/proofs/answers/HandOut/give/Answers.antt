@@ -25,18 +25,18 @@ loop-position-init c =
       rest = λ k h. drop-set-lt k (set z 0 count) 1 0 (omega arith) ∙ drop-set-lt k z 0 count (omega arith);
     }
 
-pub entry-requires-clause-passes : goal.entry-requires-clause-passes
-entry-requires-clause-passes c = rw c.field-field.ensures.asked (none-refuses _ _ _ _ c.requires.none_refuses _ (omega (arith, c.loop-position-test.true, c.count-count.ensures.asked)))
+pub show-requires-clause-passes : goal.show-requires-clause-passes
+show-requires-clause-passes c = rw c.field.ensures.asked (none-refuses _ _ _ _ c.requires.none_refuses _ (omega (arith, c.loop-position-test.true, c.count-count.ensures.asked)))
 
 pub loop-position-preserved : goal.loop-position-preserved
 loop-position-preserved c =
     let a = c.args.self.now in
     let at = answer_at c.loop-position.position in
     let now = c.loop-position.out in
-    let entry = c.copy_from_slice.new.self in
+    let entry = c.show.new.entry in
     let inside : at + 5 ≤ length now = omega (arith, c.loop-position-test.true, c.count-count.ensures.asked, c.requires.room, c.loop-position.auto.out, headed_length c.count-count.result c.args.out.now) in
-    let long : length entry ≡ 5 = omega (arith, c.copy_from_slice.ensures.len, length-take {A = ℕ}, length-drop at now) in
-    let shows = c.copy_from_slice.ensures.after ∙ c.entry.ensures ∙ ap (λ (i : ℕ). shown (lattice a.levels.rows.now) a.reader (store_of a.store.now i)) c.field-field.ensures.asked in
+    let long : length entry ≡ 5 = omega (arith, c.show.auto.entry, length-take {A = ℕ}, length-drop at now) in
+    let shows = c.show.ensures ∙ ap (λ (i : ℕ). shown (lattice a.levels.rows.now) a.reader (store_of a.store.now i)) c.field.ensures.asked in
     record {
       written = take-put_mid at _ now entry _ (omega arith) (omega arith)
           ∙ ap₂ (λ (l m : List ℕ). l ++ m) c.loop-position.invariant.written shows
