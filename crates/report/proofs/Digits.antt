@@ -24,7 +24,9 @@ decimal_one n h = rw (decimal_is n (omega arith), decimal_digit n h) (ap (λ (k 
 pub decimal_more : (n : ℕ) → 10 ≤ n → n < 2 ^ 64 → decimal n ≡ decimal (n / 10) ++ ((48 + n % 10) ∷ [])
 decimal_more n h fits = rw (decimal_is n fits, decimal_is (n / 10) (omega arith)) (decimal_step n h fits)
 
-pub length-decimal : (k n : ℕ) → 0 < k → n < 10 ^ k → n < 2 ^ 64 → length (decimal n) ≤ k
+-- ── how long they are ───────────────────────────────────────────────────────────────────────
+
+length-decimal : (k n : ℕ) → 0 < k → n < 10 ^ k → n < 2 ^ 64 → length (decimal n) ≤ k
 length-decimal k n some h fits = rw (decimal_is n fits) (length-decimal-le k n some h fits)
 
 pub part_length : (k n : ℕ) → 0 < k → n < 10 ^ k → n < 2 ^ 64 → length (part n) ≤ suc k
@@ -35,6 +37,10 @@ pub signed-length : (u : ℕ) → length (signed (of_bits u)) ≤ 11
 unfolding signed of_bits
 signed-length u = go (dec_le 2147483648 u)
   where
+    -- the digits below 0 and from 0 on
+    ten : (n : ℕ) → n < 4294967296 → length (decimal n) ≤ 10
+    ten n h = length-decimal 10 n (omega arith) (omega arith) (omega arith)
+
     go : Dec (2147483648 ≤ u) → length (signed (of_bits u)) ≤ 11
-    go (yes below) = rw (le-ltb u 2147483648 below) (omega (arith, length-decimal 10 (suc (4294967296 - suc u)) (omega arith) (omega arith) (omega arith)))
-    go (no above) = rw (lt-ltb u 2147483648 (omega arith)) (omega (arith, length-decimal 10 u (omega arith) (omega arith) (omega arith)))
+    go (yes below) = rw (le-ltb u 2147483648 below) (omega (arith, ten (suc (4294967296 - suc u)) (omega arith)))
+    go (no above) = rw (lt-ltb u 2147483648 (omega arith)) (omega (arith, ten u (omega arith)))

@@ -61,7 +61,7 @@ impl Text {
         self.len = end;
     }
 
-    /// Puts a number's digits: those before the last, then the last.
+    /// Puts a number's digits: those before the last, then the last. No `write!`, which may fail as far as its contract says, where this cannot.
     #[tactic(auto, using(crate::proofs::Digits::decimal_one, crate::proofs::Digits::decimal_more))]
     pub fn put_decimal(&mut self, n: u32)
         requires { HasRoom self.old (decimal n) }
