@@ -24,6 +24,12 @@ module _ (file : List ℕ) where
   unfolding report_of
   report_run e = rw e
 
+  -- the run of the file's parts is the file's
+  pub ran_is : {sheet store : List ℕ} {mode fuel : ℕ} → sheet ≡ sheet_in file → store ≡ store_in file → mode ≡ mode_in file → fuel ≡ fuel_in file
+      → run sheet store mode fuel lent ≡ outcome_of file
+  unfolding outcome_of
+  ran_is sheet_is store_is mode_is fuel_is = rw (sheet_is, store_is, mode_is, fuel_is)
+
   -- the word tells the answer
   pub answer-told : answer_in (word_of (outcome_of file).answer) ≡ (outcome_of file).answer
   unfolding outcome_of

@@ -1,81 +1,90 @@
 // A line per field: name, level, `whole` or `partial`, value.
-ghost use Rattle.std.specs.Prelude.{◌+◌, ◌≤◌, length};
+ghost use Rattle.std.specs.Prelude.{◌≡◌, ◌+◌, ◌≤◌, ◌++◌, length};
 ghost use Rattle.names.specs.Names.{NameIn};
 ghost use Rattle.store.specs.Marks.{mark_of};
 ghost use Rattle.store.specs.Stores.{cell_at, store_length};
 ghost use Rattle.report.specs.Inside.Given.{Entries};
-ghost use Rattle.report.specs.Inside.Putting.{Put};
-ghost use Rattle.report.specs.Text.{without_zero, name_of, mark_text, cell_text, field_line, field_lines};
+ghost use Rattle.report.specs.Inside.Room.{HasRoom};
+ghost use Rattle.report.specs.Text.{without_zero, name_of, mark_word, mark_text, cell_text, field_line, field_lines};
 
-use crate::number::{put_byte, put_part, put_signed, put_text};
+use crate::text::Text;
 
 // A byte of a name, if it is not zero.
-fn put_unless_zero(out: &mut [u8], at: usize, byte: u8) -> usize
-    ensures { Put out.old out.new at (without_zero byte) result }
+#[tactic(auto, unfolding(crate::specs::Text::without_zero))]
+fn put_unless_zero(text: &mut Text, byte: u8)
+    requires { HasRoom text.old (without_zero byte) }
+    ensures { text.new ≡ text.old ++ without_zero byte }
 {
-    if byte == 0 {
-        return at;
+    if byte != 0 {
+        text.push(byte);
     }
-    put_byte(out, at, byte)
 }
 
 // Field i's name.
-fn put_name(out: &mut [u8], at: usize, fields: &[u8], i: usize) -> usize
-    requires { NameIn fields.now i }
-    ensures { Put out.old out.new at (name_of fields.now i) result }
+fn put_name(text: &mut Text, fields: &[u8], i: usize)
+    requires name { NameIn fields.now i }
+    requires room { HasRoom text.old (name_of fields.now i) }
+    ensures { text.new ≡ text.old ++ name_of fields.now i }
 {
-    let name = i * 8;
-    let mut end = at;
-    let mut j = 0;
-    while j < 8 {
-        end = put_unless_zero(out, end, fields[name + j]);
-        j += 1;
+    for &byte in &fields[i * 8..i * 8 + 8] {
+        put_unless_zero(text, byte);
     }
-    end
+}
+
+// Whether a mark is whole or partial.
+fn mark_word(mark: u32) -> &'static [u8]
+    ensures { result.now ≡ mark_word (mark_of mark) }
+{
+    if store::is_partial(mark) {
+        b"partial"
+    } else {
+        b"whole"
+    }
 }
 
 // A mark's level, and whether it is whole or partial.
-fn put_mark(out: &mut [u8], at: usize, mark: u32) -> usize
-    ensures { Put out.old out.new at (mark_text (mark_of mark)) result }
+#[tactic(auto, unfolding(crate::specs::Text::mark_text))]
+fn put_mark(text: &mut Text, mark: u32)
+    requires { HasRoom text.old (mark_text (mark_of mark)) }
+    ensures { text.new ≡ text.old ++ mark_text (mark_of mark) }
 {
-    let level = put_part(out, at, store::level_said(mark));
-    if store::is_partial(mark) {
-        return put_text(out, level, b" partial");
-    }
-    put_text(out, level, b" whole")
+    text.put_part(store::level_said(mark));
+    text.push(b' ');
+    text.extend_from_slice(mark_word(mark));
 }
 
 // Field i's mark and value.
-fn put_cell(out: &mut [u8], at: usize, store: &[u8], i: usize) -> usize
-    requires { store_length (i + 1) ≤ length store.now }
-    ensures { Put out.old out.new at (cell_text (cell_at store.now i)) result }
+#[tactic(auto, unfolding(crate::specs::Text::cell_text, store::specs::Stores::cell_at))]
+fn put_cell(text: &mut Text, store: &[u8], i: usize)
+    requires entry { store_length (i + 1) ≤ length store.now }
+    requires room { HasRoom text.old (cell_text (cell_at store.now i)) }
+    ensures { text.new ≡ text.old ++ cell_text (cell_at store.now i) }
 {
-    let mark = put_mark(out, at, store::mark_at(store, i));
-    let blank = put_byte(out, mark, b' ');
-    put_signed(out, blank, store::value_at(store, i))
+    put_mark(text, store::mark_at(store, i));
+    text.push(b' ');
+    text.put_signed(store::value_at(store, i));
 }
 
 // Field i's line.
-fn put_line(out: &mut [u8], at: usize, fields: &[u8], store: &[u8], i: usize) -> usize
-    requires { NameIn fields.now i × (store_length (i + 1) ≤ length store.now) }
-    ensures { Put out.old out.new at (field_line fields.now store.now i) result }
+#[tactic(auto, unfolding(crate::specs::Text::field_line))]
+fn put_line(text: &mut Text, fields: &[u8], store: &[u8], i: usize)
+    requires name { NameIn fields.now i }
+    requires entry { store_length (i + 1) ≤ length store.now }
+    requires room { HasRoom text.old (field_line fields.now store.now i) }
+    ensures { text.new ≡ text.old ++ field_line fields.now store.now i }
 {
-    let name = put_name(out, at, fields, i);
-    let cell = put_cell(out, name, store, i);
-    put_byte(out, cell, b'\n')
+    put_name(text, fields, i);
+    put_cell(text, store, i);
+    text.push(b'\n');
 }
 
-// All fields' lines.
-pub fn put_lines(out: &mut [u8], at: usize, fields: &[u8], store: &[u8]) -> usize
-    requires { Entries fields.now store.now }
-    ensures { Put out.old out.new at (field_lines fields.now store.now) result }
+/// Puts all fields' lines.
+pub fn put_lines(text: &mut Text, fields: &[u8], store: &[u8])
+    requires entries { Entries fields.now store.now }
+    requires room { HasRoom text.old (field_lines fields.now store.now) }
+    ensures { text.new ≡ text.old ++ field_lines fields.now store.now }
 {
-    let n = fields.len() / 8;
-    let mut end = at;
-    let mut i = 0;
-    while i < n {
-        end = put_line(out, end, fields, store, i);
-        i += 1;
+    for i in 0..fields.len() / 8 {
+        put_line(text, fields, store, i);
     }
-    end
 }

@@ -1,60 +1,41 @@
 // The file that the runner program reads: mode byte, fuel in 4 bytes, sheet length in 2, sheet, store length in 2, store.
-ghost use Rattle.std.specs.Prelude.{◌≤◌, ◌<◌, ◌≡◌, length};
-ghost use Rattle.report.specs.File.{mode_in, fuel_in, sheet_end, sheet_in, store_in, is_cut};
-ghost use Rattle.report.specs.Inside.Given.{Complete};
+ghost use Rattle.std.specs.Prelude.{◌≡◌, ◌↔◌, IsTrue, IsNone, IfSome};
+ghost use Rattle.report.specs.File.{mode_in, fuel_in, sheet_in, store_in, is_cut};
 
-use basis::word;
+/// The run that a file asks for.
+#[derive(Clone, Copy)]
+pub struct RunFile<'a> {
+    pub mode: u8,
+    pub fuel: u32,
+    pub sheet: &'a [u8],
+    pub store: &'a [u8],
+}
 
-// Whether the file is cut before the store's length is complete.
-pub fn is_cut(file: &[u8]) -> bool
-    ensures { result ≡ is_cut file.now }
-{
-    if file.len() < 7 {
-        return true;
+impl<'a> RunFile<'a> {
+    /// Takes a file apart, unless it is cut before the store's length is complete. A store that is cut or followed by bytes counts as none.
+    #[tactic(auto, unfolding(crate::specs::File::is_cut, crate::specs::File::sheet_in))]
+    pub fn parse(file: &'a [u8]) -> Option<RunFile<'a>>
+        ensures cut { IsNone result ↔ IsTrue (is_cut file.now) }
+        ensures mode { IfSome result (λ run. run.mode ≡ mode_in file.now) }
+        ensures fuel { IfSome result (λ run. run.fuel ≡ fuel_in file.now) }
+        ensures sheet { IfSome result (λ run. run.sheet.now ≡ sheet_in file.now) }
+        ensures store { IfSome result (λ run. run.store.now ≡ store_in file.now) }
+    {
+        let (&[mode, f0, f1, f2, f3, s0, s1], rest) = file.split_first_chunk::<7>()?;
+        let fuel = u32::from_le_bytes([f0, f1, f2, f3]);
+        let sheet_length = u16::from_le_bytes([s0, s1]);
+        let (sheet, rest) = rest.split_at_checked(usize::from(sheet_length))?;
+        let (&store_length, rest) = rest.split_first_chunk::<2>()?;
+        let store = if rest.len() == usize::from(u16::from_le_bytes(store_length)) {
+            rest
+        } else {
+            &[]
+        };
+        Some(RunFile {
+            mode,
+            fuel,
+            sheet,
+            store,
+        })
     }
-    file.len() < sheet_end(file) + 2
-}
-
-pub fn mode(file: &[u8]) -> u8
-    requires { Complete file.now }
-    ensures { result ≡ mode_in file.now }
-{
-    file[0]
-}
-
-pub fn fuel(file: &[u8]) -> u32
-    requires { Complete file.now }
-    ensures { result ≡ fuel_in file.now }
-{
-    word(file, 1) + word(file, 3) * 65536
-}
-
-pub fn sheet(file: &[u8]) -> &[u8]
-    requires { Complete file.now }
-    ensures { result.now ≡ sheet_in file.now }
-{
-    &file[7..sheet_end(file)]
-}
-
-// The store, or nothing where it is cut or followed by bytes.
-pub fn store(file: &[u8]) -> &[u8]
-    requires { Complete file.now }
-    ensures { result.now ≡ store_in file.now }
-{
-    let end = sheet_end(file);
-    let store = end + 2;
-    let len = file.len();
-    if len - store == word(file, end) as usize {
-        &file[store..]
-    } else {
-        &file[len..]
-    }
-}
-
-// Where the sheet ends.
-fn sheet_end(file: &[u8]) -> usize
-    requires { 7 ≤ length file.now }
-    ensures { (result ≡ sheet_end file.now) × (result < 65543) }
-{
-    7 + word(file, 5) as usize
 }

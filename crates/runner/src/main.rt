@@ -3,14 +3,13 @@
 #![tactic(auto)]
 
 use input::read_full;
+use report::report;
 use std::io;
 use std::io::Write;
 
 fn main(rt: HostRuntime) -> io::Result<()> {
     // The longest file has 7 + 65,535 + 2 + 65,535 bytes. A longer one has bytes after its store whatever its lengths say, so one byte more is enough.
-    let mut file = [0u8; 131080];
+    let mut file = [0; 131080];
     let n = read_full(&mut rt.stdin(), &mut file)?;
-    let mut text = [0u8; 2128];
-    let end = report::report(&file[..n], &mut text);
-    rt.stdout().write_all(&text[..end])
+    rt.stdout().write_all(report(&file[..n]).as_slice())
 }

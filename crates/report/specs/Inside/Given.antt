@@ -1,11 +1,6 @@
 -- What functions of `report` are given.
-use Rattle.std.specs.Prelude.{ℕ, ◌+◌, ◌/◌, ◌≤◌, List, length}
+use Rattle.std.specs.Prelude.{ℕ, ◌/◌, ◌≤◌, List, length}
 use Rattle.store.specs.Stores.{store_length}
-use Rattle.report.specs.File.{sheet_end}
-
--- a file that is not cut
-abbrev pub Complete : List ℕ → Type 0
-Complete file = sheet_end file + 2 ≤ length file
 
 -- the names of some fields, and a store with an entry for each
 abbrev pub Entries : List ℕ → List ℕ → Type 0
