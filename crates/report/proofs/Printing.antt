@@ -6,7 +6,7 @@ use mathlib.Core.List.{List}
 use borrow.Author.Tests.{eq-eqb, ne_eqb}
 use lib.ListN.{length, get_or, length-append}
 use Rattle.basis.specs.Numbers as numbers
-use Rattle.basis.specs.declared.answer.Answer.{Answer}
+use Rattle.basis.specs.Answer.{Answer}
 use Rattle.store.specs.Stores.{entry_at}
 use Rattle.report.specs.Text.{field_line, done_text, refused_text, printed}
 use Rattle.report.specs.Report.{longest}

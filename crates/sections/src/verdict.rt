@@ -2,7 +2,7 @@
 ghost use Rattle.std.specs.Prelude.{◌≡◌};
 ghost use Rattle.sections.specs.Verdict.{fault_number, verdict_number, verdict_place, passes_of, ◌then◌};
 
-use basis::numbers;
+use basis::numbers::Number;
 
 #[derive(Clone, Copy)]
 pub enum Verdict {
@@ -41,10 +41,10 @@ fn fault_number(fault: Fault) -> u8
     ensures { result ≡ fault_number fault }
 {
     match fault {
-        Fault::Unknown => numbers::NODE_UNKNOWN,
-        Fault::Unused => numbers::NODE_UNUSED,
-        Fault::Range => numbers::NODE_RANGE,
-        Fault::Sort => numbers::NODE_SORT,
+        Fault::Unknown => Number::NodeUnknown as u8,
+        Fault::Unused => Number::NodeUnused as u8,
+        Fault::Range => Number::NodeRange as u8,
+        Fault::Sort => Number::NodeSort as u8,
     }
 }
 
@@ -53,14 +53,14 @@ pub fn number(v: Verdict) -> u8
     ensures { result ≡ verdict_number v }
 {
     match v {
-        Verdict::Passes => numbers::DONE,
-        Verdict::Length => numbers::SHEET_LENGTH,
-        Verdict::Count => numbers::COUNT_OUTSIDE,
-        Verdict::Levels => numbers::LEVELS_WRONG,
-        Verdict::Name => numbers::NAME_WRONG,
+        Verdict::Passes => 0,
+        Verdict::Length => Number::SheetLength as u8,
+        Verdict::Count => Number::CountOutside as u8,
+        Verdict::Levels => Number::LevelsWrong as u8,
+        Verdict::Name => Number::NameWrong as u8,
         Verdict::Node(fault, _) => fault_number(fault),
-        Verdict::Uses => numbers::NOT_USED_ONCE,
-        Verdict::Depth => numbers::TOO_DEEP,
+        Verdict::Uses => Number::NotUsedOnce as u8,
+        Verdict::Depth => Number::TooDeep as u8,
     }
 }
 
@@ -83,7 +83,7 @@ pub fn place(v: Verdict) -> usize
 pub fn passes(v: Verdict) -> bool
     ensures { result ≡ passes_of v }
 {
-    number(v) == numbers::DONE
+    number(v) == 0
 }
 
 // The first of two checks that refuses.

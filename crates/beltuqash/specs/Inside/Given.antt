@@ -1,7 +1,5 @@
 -- What is given once checks have passed.
 use Rattle.std.specs.Prelude.{ℕ, ◌≤◌, ◌<◌, ◌≡◌, true, List}
-use Rattle.basis.specs.declared.answer.Answer.{Answer}
-use Rattle.basis.specs.Answer.{Outcome}
 use Rattle.levels.specs.Levels.{count}
 use Rattle.sections.specs.Sections.{levels_of}
 use Rattle.sheet.specs.Load.{field_count}
@@ -28,7 +26,3 @@ pub record Requested (sheet store : List ℕ) (reader : ℕ) (request : List ℕ
   pub taken : Taken sheet store permissive
   pub reader-known : reader < count (levels_of sheet)
   pub right_request : request_right (field_count sheet) request ≡ true
-
--- an answer and the output afterwards are an outcome
-abbrev pub Comes : Outcome → Answer → List ℕ → Type 0
-Comes outcome answer out = (answer ≡ outcome.answer) × (out ≡ outcome.out)

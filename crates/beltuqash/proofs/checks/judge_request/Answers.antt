@@ -2,14 +2,14 @@
 use borrow.Author.Tests.{le-leb, lt-leb}
 use Prim.Native.Nat.{ℕ, ◌/◌}
 use native.Mathlib.Omega.{arith}
-use mathlib.Core.Path.{◌≡◌, sym, ap, ap₂, ◌∙◌}
+use mathlib.Core.Path.{◌≡◌, refl, sym, ap, ap₂, ◌∙◌}
 use mathlib.Core.Bool.{Bool, ◌&&◌}
 use mathlib.Core.List.{List}
 use lib.Dec.{ltb}
 use lib.ListN.{length}
 use Rattle.basis.specs.Numbers as numbers
-use Rattle.basis.specs.Answer.{refusal}
-use Rattle.basis.specs.Checks.{tells}
+use Rattle.basis.specs.Answer.{refusal, refused}
+use Rattle.basis.specs.Checks.{all_hold, tells}
 use Rattle.levels.specs.Levels.{count}
 use Rattle.sections.specs.Sections.{levels_of, fields_of}
 use Rattle.sheet.specs.Load.{field_count}
@@ -28,10 +28,10 @@ asked_as sheet request reader rows fields right =
     ap₂ (λ (rows : List ℕ) (b : Bool). ltb reader (count rows) && b) (sym rows) (sym (right ∙ ap (λ (l : List ℕ). request_right (length l / 8) request) fields))
 
 pub returns-then-not-known-right : goal.returns-then-not-known-right
-unfolding tells
+unfolding all_hold tells
 returns-then-not-known-right c =
     let a = c.args in
-    rw (asked_as a.sheet.now a.request.now a.reader c.levels-rows.ensures c.fields.ensures c.right.ensures ∙ c.if-not-known-right.true) c.refusal.ensures
+    rw (asked_as a.sheet.now a.request.now a.reader c.levels-rows.ensures c.fields.ensures c.right.ensures ∙ c.if-not-known-right.true) (refl, ap refused c.into.ensures)
 
 pub length-requires : goal.length-requires
 unfolding mode_of
@@ -42,12 +42,12 @@ length-requires c =
     omega (arith, (right_has _ _ given.right_request).size)
 
 pub returns-then-room-length : goal.returns-then-room-length
-unfolding tells
+unfolding all_hold tells
 returns-then-room-length c =
     let a = c.args in
     let asked = asked_as a.sheet.now a.request.now a.reader c.levels-rows.ensures c.fields.ensures c.right.ensures ∙ c.if-not-known-right.false in
     let short = lt-leb (answer_length a.request.now) a.room (omega (arith, c.if-room-length.true, c.length.ensures)) in
-    rw (asked, short) c.refusal-then-room-length.ensures
+    rw (asked, short) (refl, ap refused c.into-then-room-length.ensures)
 
 pub first_refusing-first-requires : goal.first_refusing-first-requires
 unfolding mode_of
@@ -66,7 +66,7 @@ count-requires c =
     omega (arith, (right_has _ _ given.right_request).size)
 
 pub returns : goal.returns
-unfolding tells
+unfolding all_hold
 returns c =
     let a = c.args in
     let asked = asked_as a.sheet.now a.request.now a.reader c.levels-rows.ensures c.fields.ensures c.right.ensures ∙ c.if-not-known-right.false in
@@ -74,10 +74,10 @@ returns c =
     let position = refused_position a.sheet.now a.store.now a.reader a.request.now in
     let first_is = rw c.levels-rows.ensures at c.first_refusing-first.ensures in
     let none = le-leb (asked_count a.request.now) position (omega (arith, c.if-first-count.false, first_is, c.count.ensures.0)) in
-    rw (asked, room, none) c.success.ensures
+    rw (asked, room, none) refl
 
 pub returns-then-first-count : goal.returns-then-first-count
-unfolding tells
+unfolding all_hold tells
 returns-then-first-count c =
     let a = c.args in
     let asked = asked_as a.sheet.now a.request.now a.reader c.levels-rows.ensures c.fields.ensures c.right.ensures ∙ c.if-not-known-right.false in
@@ -85,4 +85,4 @@ returns-then-first-count c =
     let position = refused_position a.sheet.now a.store.now a.reader a.request.now in
     let first_is = rw c.levels-rows.ensures at c.first_refusing-first.ensures in
     let before = lt-leb (asked_count a.request.now) position (omega (arith, c.if-first-count.true, first_is, c.count.ensures.0)) in
-    rw (asked, room, before) (c.refusal-then-first-count.ensures ∙ ap (refusal numbers.partial_asked) first_is)
+    rw (asked, room, before) (refl, ap refused c.at.ensures ∙ ap (refusal numbers.partial_asked) first_is)
