@@ -9,7 +9,6 @@ ghost use Rattle.beltuqash.specs.Inside.Given.{Taken};
 use basis::answer::Refusal;
 use basis::numbers::Number;
 use handout::{answers, requests};
-use sections::verdict;
 
 // A hand-out takes any mark that the sheet knows, as a permissive run does.
 const PERMISSIVE: u32 = 1;
@@ -18,12 +17,11 @@ const PERMISSIVE: u32 = 1;
 pub fn judge_sheet(sheet: &[u8]) -> Result<(), Refusal>
     ensures { Judges (sheet_checks sheet.now) result }
 {
-    let verdict = sheet::load(sheet);
-    if verdict::passes(verdict) {
-        return Ok(());
+    // No `From` and `?`: that the place fits is known of a sheet's error, and not of every `SheetError`.
+    match sheet::load(sheet) {
+        Ok(()) => Ok(()),
+        Err(wrong) => Err(Refusal::at(wrong.number(), wrong.place() as u16)),
     }
-    let number = Number::try_from(verdict::number(verdict)).unwrap();
-    Err(Refusal::at(number, verdict::place(verdict) as u16))
 }
 
 // A store, beside a sheet that passes: 8 and 9.

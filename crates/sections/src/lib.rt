@@ -10,7 +10,7 @@ ghost use Rattle.std.specs.Prelude.{◌≡◌};
 ghost use Rattle.sections.specs.Sections.{sections_verdict, levels_of, fields_of, constants_of, nodes_of};
 
 use reader::{after, entries, judge, judge_end, start};
-use verdict::{Verdict, in_order};
+use verdict::SheetError;
 
 // The bytes of an entry.
 const LEVEL: u8 = 2;
@@ -22,7 +22,7 @@ const CONSTANT: u8 = 4;
 const NODE: u8 = 8;
 
 // Judges all sections in byte order.
-pub fn judge_sections(sheet: &[u8]) -> Verdict
+pub fn judge_sections(sheet: &[u8]) -> Result<(), SheetError>
     ensures { result ≡ sections_verdict sheet.now }
 {
     let levels = start(sheet);
@@ -30,16 +30,11 @@ pub fn judge_sections(sheet: &[u8]) -> Verdict
     let constants = after(fields, FIELD);
     let nodes = after(constants, CONSTANT);
     let end = after(nodes, NODE);
-    in_order(
-        judge(levels, LEVEL, 1, 16),
-        in_order(
-            judge(fields, FIELD, 1, 64),
-            in_order(
-                judge(constants, CONSTANT, 0, 256),
-                in_order(judge(nodes, NODE, 1, 1024), judge_end(end)),
-            ),
-        ),
-    )
+    judge(levels, LEVEL, 1, 16)?;
+    judge(fields, FIELD, 1, 64)?;
+    judge(constants, CONSTANT, 0, 256)?;
+    judge(nodes, NODE, 1, 1024)?;
+    judge_end(end)
 }
 
 // The order rows.

@@ -5,7 +5,7 @@ ghost use Rattle.sections.specs.Sections.{entries_of, section_verdict, end_verdi
 ghost use Rattle.sections.specs.Inside.Reader.{rest_of, at_start, past};
 
 use crate::section;
-use crate::verdict::Verdict;
+use crate::verdict::SheetError;
 
 #[derive(Clone, Copy)]
 pub struct SectionReader<'a> {
@@ -21,7 +21,12 @@ pub fn start<'a>(sheet: &'a [u8]) -> SectionReader<'a>
 }
 
 // Judges the section at the reader's offset.
-pub fn judge<'a>(reader: SectionReader<'a>, size: u8, least: u32, most: u32) -> Verdict
+pub fn judge<'a>(
+    reader: SectionReader<'a>,
+    size: u8,
+    least: u32,
+    most: u32,
+) -> Result<(), SheetError>
     ensures { result ≡ section_verdict size least most (rest_of reader.entry) }
 {
     section::judge_at(reader.sheet, reader.at, size, least, most)
@@ -46,7 +51,7 @@ pub fn after<'a>(reader: SectionReader<'a>, size: u8) -> SectionReader<'a>
 }
 
 // Judges what is left at the reader's offset: nothing may be.
-pub fn judge_end<'a>(reader: SectionReader<'a>) -> Verdict
+pub fn judge_end<'a>(reader: SectionReader<'a>) -> Result<(), SheetError>
     ensures { result ≡ end_verdict (rest_of reader.entry) }
 {
     section::judge_end(reader.sheet, reader.at)

@@ -4,7 +4,7 @@
 ghost use Rattle.std.specs.Prelude.{◌≡◌, ◌≤◌, min, length, drop};
 ghost use Rattle.sections.specs.Sections.{section_end, entries_of, section_verdict, end_verdict, offset_after};
 
-use crate::verdict::Verdict;
+use crate::verdict::SheetError;
 use basis::word;
 
 // The rest of the sheet from an offset on.
@@ -48,28 +48,28 @@ fn entries(rest: &[u8], size: u8) -> &[u8]
 }
 
 // Judges the section at the front of the rest: its count, the count's limits, its entries.
-fn judge_section(rest: &[u8], size: u8, least: u32, most: u32) -> Verdict
+fn judge_section(rest: &[u8], size: u8, least: u32, most: u32) -> Result<(), SheetError>
     ensures { result ≡ section_verdict size least most rest.now }
 {
     if rest.len() < 2 {
-        return Verdict::Length;
+        return Err(SheetError::Length);
     }
     let count = word(rest, 0);
     if count < least {
-        return Verdict::Count;
+        return Err(SheetError::Count);
     }
     if most < count {
-        return Verdict::Count;
+        return Err(SheetError::Count);
     }
     if section_end(rest, size) <= rest.len() {
-        Verdict::Passes
+        Ok(())
     } else {
-        Verdict::Length
+        Err(SheetError::Length)
     }
 }
 
 // The section at an offset judged, its entries, and the offset after it.
-pub fn judge_at(sheet: &[u8], at: usize, size: u8, least: u32, most: u32) -> Verdict
+pub fn judge_at(sheet: &[u8], at: usize, size: u8, least: u32, most: u32) -> Result<(), SheetError>
     ensures { result ≡ section_verdict size least most (drop at sheet.now) }
 {
     judge_section(rest_at(sheet, at), size, least, most)
@@ -92,12 +92,12 @@ pub fn offset_after(sheet: &[u8], at: usize, size: u8) -> usize
 }
 
 // Judges what is left after the last section: nothing may be.
-pub fn judge_end(sheet: &[u8], at: usize) -> Verdict
+pub fn judge_end(sheet: &[u8], at: usize) -> Result<(), SheetError>
     ensures { result ≡ end_verdict (drop at sheet.now) }
 {
     if rest_at(sheet, at).len() == 0 {
-        Verdict::Passes
+        Ok(())
     } else {
-        Verdict::Length
+        Err(SheetError::Length)
     }
 }
