@@ -5,9 +5,10 @@ use mathlib.Core.Path.{◌≡◌, refl, sym, ap, ◌∙◌}
 use mathlib.Core.Bool.{true, false, true≢false}
 use mathlib.Core.List.{List, [], ◌∷◌, ◌++◌}
 use Rattle.basis.specs.Numbers as numbers
-use Rattle.basis.specs.declared.answer.Answer.{Answer}
-use Rattle.basis.specs.Answer.{success, refusal, Outcome}
-use Rattle.basis.specs.Checks.{Check, all_hold, tells, checked}
+use Rattle.std.specs.Prelude.{Result, Ok, Err}
+use Rattle.basis.specs.declared.answer.Refusal.{Refusal}
+use Rattle.basis.specs.Answer.{Answer, success, refusal, refused, verdict_of, Outcome}
+use Rattle.basis.specs.Checks.{Check, all_hold, tells, checked, Judges}
 use Rattle.basis.proofs.Tests.{split}
 
 -- the first check holds, or is told
@@ -108,3 +109,28 @@ module _ (checks : List Check) where
         split (all_hold checks)
         (λ t. (t, goes_on t))
         (λ f. absurd (tells_one (λ a. a.number ≡ numbers.done → ⊥) checks numbered f (rw (refuses f) at e)))
+
+-- ── what the code finds ─────────────────────────────────────────────────────────────────────
+
+-- the answer of what is found is told
+pub judged_told : (checks : List Check) (found : Result (Unit {0}) Refusal) → Judges checks found → verdict_of found ≡ tells checks
+judged_told checks (Ok _) holds = sym (tells-success checks holds)
+judged_told checks (Err r) (fails, told) = told
+
+-- past a check that holds, the rest is judged; one that does not hold is found
+module _ {A : Type 0} (c : Check) (rest : List Check) where
+  pub judge_next : c.holds ≡ true → (found : Result A Refusal) → Judges rest found → Judges (c ∷ rest) found
+  judge_next h (Ok _) holds = (first_holds c rest h).0 ∙ holds
+  judge_next h (Err r) (fails, told) = ((first_holds c rest h).0 ∙ fails, told ∙ sym (first_holds c rest h).1)
+
+  pub judge_fails : c.holds ≡ false → (r : Refusal) → refused r ≡ refusal c.number c.place → Judges {A = A} (c ∷ rest) (Err r)
+  judge_fails f r is = ((first-fails c rest f).0, is ∙ sym (first-fails c rest f).1)
+
+-- past a list that holds, the next is judged; what is found of a list is found of it and more
+module _ {A : Type 0} (before after : List Check) where
+  pub judge_append : all_hold before ≡ true → (found : Result A Refusal) → Judges after found → Judges (before ++ after) found
+  judge_append h (Ok _) holds = (append-holds after before h).0 ∙ holds
+  judge_append h (Err r) (fails, told) = ((append-holds after before h).0 ∙ fails, told ∙ sym (append-holds after before h).1)
+
+  pub judge_before : {B : Type 0} (r : Refusal) → Judges {A = B} before (Err r) → Judges {A = A} (before ++ after) (Err r)
+  judge_before r (fails, told) = ((append-fails after before fails).0, told ∙ sym (append-fails after before fails).1)

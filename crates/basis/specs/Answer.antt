@@ -1,7 +1,12 @@
 -- What comes back from a call: a number of document 01's table, a place, and the units spent.
-use Rattle.std.specs.Prelude.{ℕ, ◌+◌, ◌*◌, ◌/◌, ◌%◌, ◌^◌, List}
+use Rattle.std.specs.Prelude.{ℕ, ◌+◌, ◌*◌, ◌/◌, ◌%◌, ◌^◌, List, Result, Ok, Err}
 use Rattle.basis.specs.Numbers as numbers
-use Rattle.basis.specs.declared.answer.Answer.{Answer}
+use Rattle.basis.specs.declared.answer.Refusal.{Refusal}
+
+pub record Answer : Type 0 where
+  pub number : ℕ
+  pub place : ℕ
+  pub units : ℕ
 
 abbrev pub answer : ℕ → ℕ → ℕ → Answer
 answer number place units = record { number = number; place = place; units = units }
@@ -25,3 +30,16 @@ answer_in word = answer (word % 2 ^ 8) (word / 2 ^ 8 % 2 ^ 16) (word / 2 ^ 32)
 pub record Outcome : Type 0 where
   pub answer : Answer
   pub out : List ℕ
+
+-- what the code gives as an answer: a refusal, or the units spent
+abbrev pub refused : Refusal → Answer
+refused r = answer (numbers.number_of r.number) r.place r.units
+
+abbrev pub answer_of : Result ℕ Refusal → Answer
+answer_of (Ok units) = success units
+answer_of (Err r) = refused r
+
+-- the same of a call that spends nothing
+abbrev pub verdict_of : Result (Unit {0}) Refusal → Answer
+verdict_of (Ok _) = success 0
+verdict_of (Err r) = refused r

@@ -1,7 +1,7 @@
 -- The order of checks, as data: whether each holds, and what is told where it does not.
-use Rattle.std.specs.Prelude.{ℕ, Bool, true, cond, ◌&&◌, List, [], ◌∷◌}
-use Rattle.basis.specs.declared.answer.Answer.{Answer}
-use Rattle.basis.specs.Answer.{success, refusal, Outcome}
+use Rattle.std.specs.Prelude.{ℕ, ◌≡◌, Bool, true, false, cond, ◌&&◌, List, [], ◌∷◌, Result, MatchResult}
+use Rattle.basis.specs.declared.answer.Refusal.{Refusal}
+use Rattle.basis.specs.Answer.{Answer, success, refusal, refused, Outcome}
 
 pub record Check : Type 0 where
   pub holds : Bool
@@ -23,3 +23,7 @@ tells (c ∷ rest) = cond c.holds (tells rest) (refusal c.number c.place)
 -- A refusal writes nothing. Where all checks hold, what comes after them is done.
 unfoldable pub checked : List Check → List ℕ → Outcome → Outcome
 checked checks out next = cond (all_hold checks) next (record { answer = tells checks; out = out })
+
+-- what the code finds is what the checks tell: no refusal where all hold, or else the refusal of the first that does not
+abbrev pub Judges : {A : Type 0} → List Check → Result A Refusal → Type 0
+Judges checks found = MatchResult found (λ _. all_hold checks ≡ true) (λ r. (all_hold checks ≡ false) × (refused r ≡ tells checks))

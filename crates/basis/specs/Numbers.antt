@@ -1,6 +1,9 @@
 -- What comes back, by document 01's table: the number of each refusal, and 0 for none. What is wrong with a node has 19 to 22; 5 is never given.
 -- The names are those of `src/numbers` and of the C header.
-use Rattle.std.specs.Prelude.{ℕ}
+use Rattle.std.specs.Prelude.{ℕ, ◌≡◌, ◌≢◌, ◌<◌, Result, MatchResult}
+use Rattle.basis.specs.declared.numbers.Number.{Number}
+use Rattle.basis.specs.declared.numbers.Number.TheVariants.{SheetLength, CountOutside, LevelsWrong, NameWrong, NotUsedOnce, TooDeep, StoreMisfit, MarkWrong, ModeOrFuel, OutShort, FuelSpent, OutOfRange, DivisorZero, NotBelow, PartialTest, ReaderOrRequest, PartialAsked, NodeUnknown, NodeUnused, NodeRange, NodeSort}
+use Rattle.basis.specs.declared.numbers.UnknownNumber.{UnknownNumber}
 
 -- success
 abbrev pub done : ℕ
@@ -89,3 +92,31 @@ node_range = 21
 -- child of the wrong sort
 abbrev pub node_sort : ℕ
 node_sort = 22
+
+-- the number of a refusal, as the code names it
+abbrev pub number_of : Number → ℕ
+number_of SheetLength = sheet_length
+number_of CountOutside = count_outside
+number_of LevelsWrong = levels_wrong
+number_of NameWrong = name_wrong
+number_of NotUsedOnce = not_used_once
+number_of TooDeep = too_deep
+number_of StoreMisfit = store_misfit
+number_of MarkWrong = mark_wrong
+number_of ModeOrFuel = mode_or_fuel
+number_of OutShort = out_short
+number_of FuelSpent = fuel_spent
+number_of OutOfRange = out_of_range
+number_of DivisorZero = divisor_zero
+number_of NotBelow = not_below
+number_of PartialTest = partial_test
+number_of ReaderOrRequest = reader_or_request
+number_of PartialAsked = partial_asked
+number_of NodeUnknown = node_unknown
+number_of NodeUnused = node_unused
+number_of NodeRange = node_range
+number_of NodeSort = node_sort
+
+-- a byte is read as the refusal with that number; 0 and 5 are no refusal's number, nor is one above 22
+abbrev pub Decodes : ℕ → Result Number UnknownNumber → Type 0
+Decodes byte read = MatchResult read (λ number. number_of number ≡ byte) (λ e. (e.0 ≡ byte) × (byte ≢ 0 → byte ≢ 5 → node_sort < byte))

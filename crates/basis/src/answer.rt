@@ -1,52 +1,33 @@
-// What comes back from a call: number, place and units, as a record until it is packed into the answer word.
+// What comes back from a call: the units spent, or a refusal.
 ghost use Rattle.std.specs.Prelude.{◌≡◌};
-ghost use Rattle.basis.specs.Answer.{success, refusal, word_of, answer_in};
 
-use crate::numbers::DONE;
+use crate::numbers::Number;
 
-#[derive(Clone, Copy)]
-pub struct Answer {
-    pub number: u8,
+/// What a call that refuses tells. Units are spent by a run that stops alone.
+#[derive(Clone, Copy, Debug, PartialEq, Eq)]
+pub struct Refusal {
+    pub number: Number,
     pub place: u16,
     pub units: u32,
 }
 
-// Success, with the units spent.
-pub fn success(units: u32) -> Answer
-    ensures { result ≡ success units }
-{
-    Answer {
-        number: DONE,
-        place: 0,
-        units,
+impl Refusal {
+    /// A refusal at a place, before anything is spent.
+    pub fn at(number: Number, place: u16) -> Refusal
+        ensures { result ≡ record { number = number; place = place; units = 0 } }
+    {
+        Refusal {
+            number,
+            place,
+            units: 0,
+        }
     }
 }
 
-// A refusal before anything is spent.
-pub fn refusal(number: u8, place: u16) -> Answer
-    ensures { result ≡ refusal number place }
-{
-    Answer {
-        number,
-        place,
-        units: 0,
-    }
-}
+impl From<Number> for Refusal {
+    ghost from_gives = { λ number r. r ≡ record { number = number; place = 0; units = 0 } };
 
-// The word of an answer.
-pub fn pack(a: Answer) -> u64
-    ensures { result ≡ word_of a }
-{
-    a.number as u64 + a.place as u64 * 256 + a.units as u64 * 4294967296
-}
-
-// The answer in a word.
-pub fn unpack(word: u64) -> Answer
-    ensures { result ≡ answer_in word }
-{
-    Answer {
-        number: (word % 256) as u8,
-        place: (word / 256 % 65536) as u16,
-        units: (word / 4294967296) as u32,
+    fn from(number: Number) -> Refusal {
+        Refusal::at(number, 0)
     }
 }

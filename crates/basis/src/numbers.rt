@@ -1,44 +1,74 @@
-// What comes back, by document 01's table: the number of each refusal, and 0 for none. What is wrong with a node has 19 to 22; 5 is never given.
-pub const DONE: u8 = 0;
+// What comes back, by document 01's table.
+ghost use Rattle.std.specs.Prelude.{◌≡◌};
+ghost use Rattle.basis.specs.Numbers.{number_of, Decodes};
 
-pub const SHEET_LENGTH: u8 = 1;
+/// The refusals, each with its number. What is wrong with a node has 19 to 22; 5 is never given, and 0 is success.
+#[derive(Clone, Copy, Debug, PartialEq, Eq)]
+pub enum Number {
+    SheetLength = 1,
+    CountOutside = 2,
+    LevelsWrong = 3,
+    NameWrong = 4,
+    NotUsedOnce = 6,
+    TooDeep = 7,
+    StoreMisfit = 8,
+    MarkWrong = 9,
+    ModeOrFuel = 10,
+    OutShort = 11,
+    FuelSpent = 12,
+    OutOfRange = 13,
+    DivisorZero = 14,
+    NotBelow = 15,
+    PartialTest = 16,
+    ReaderOrRequest = 17,
+    PartialAsked = 18,
+    NodeUnknown = 19,
+    NodeUnused = 20,
+    NodeRange = 21,
+    NodeSort = 22,
+}
 
-pub const COUNT_OUTSIDE: u8 = 2;
+impl From<Number> for u8 {
+    ghost from_gives = { λ number byte. byte ≡ number_of number };
 
-pub const LEVELS_WRONG: u8 = 3;
+    fn from(number: Number) -> u8 {
+        number as u8
+    }
+}
 
-pub const NAME_WRONG: u8 = 4;
+/// A byte that is no refusal's number.
+#[derive(Clone, Copy, Debug, PartialEq, Eq)]
+pub struct UnknownNumber(pub u8);
 
-pub const NOT_USED_ONCE: u8 = 6;
+impl TryFrom<u8> for Number {
+    type Error = UnknownNumber;
 
-pub const TOO_DEEP: u8 = 7;
+    ghost try_from_gives = { Decodes };
 
-pub const STORE_MISFIT: u8 = 8;
-
-pub const MARK_WRONG: u8 = 9;
-
-pub const MODE_OR_FUEL: u8 = 10;
-
-pub const OUT_SHORT: u8 = 11;
-
-pub const FUEL_SPENT: u8 = 12;
-
-pub const OUT_OF_RANGE: u8 = 13;
-
-pub const DIVISOR_ZERO: u8 = 14;
-
-pub const NOT_BELOW: u8 = 15;
-
-pub const PARTIAL_TEST: u8 = 16;
-
-pub const READER_OR_REQUEST: u8 = 17;
-
-pub const PARTIAL_ASKED: u8 = 18;
-
-pub const NODE_UNKNOWN: u8 = 19;
-
-pub const NODE_UNUSED: u8 = 20;
-
-pub const NODE_RANGE: u8 = 21;
-
-pub const NODE_SORT: u8 = 22;
+    fn try_from(byte: u8) -> Result<Self, UnknownNumber> {
+        Ok(match byte {
+            1 => Number::SheetLength,
+            2 => Number::CountOutside,
+            3 => Number::LevelsWrong,
+            4 => Number::NameWrong,
+            6 => Number::NotUsedOnce,
+            7 => Number::TooDeep,
+            8 => Number::StoreMisfit,
+            9 => Number::MarkWrong,
+            10 => Number::ModeOrFuel,
+            11 => Number::OutShort,
+            12 => Number::FuelSpent,
+            13 => Number::OutOfRange,
+            14 => Number::DivisorZero,
+            15 => Number::NotBelow,
+            16 => Number::PartialTest,
+            17 => Number::ReaderOrRequest,
+            18 => Number::PartialAsked,
+            19 => Number::NodeUnknown,
+            20 => Number::NodeUnused,
+            21 => Number::NodeRange,
+            22 => Number::NodeSort,
+            _ => return Err(UnknownNumber(byte)),
+        })
+    }
+}

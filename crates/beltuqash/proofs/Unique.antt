@@ -7,9 +7,8 @@ use mathlib.Core.Bool.{Bool, true, false, ◌&&◌}
 use mathlib.Core.List.{List, ◌++◌}
 use lib.ListN.{length, drop}
 use lib.Dec.{ltb}
-use Rattle.basis.specs.declared.answer.Answer.{Answer}
 use Rattle.basis.specs.Numbers as numbers
-use Rattle.basis.specs.Answer.{answer, success, refusal, word_of, answer_in, Outcome}
+use Rattle.basis.specs.Answer.{Answer, answer, success, refusal, word_of, answer_in, Outcome}
 use Rattle.basis.specs.Checks.{Check, check, all_hold, tells, checked}
 use Rattle.basis.proofs.Tests.{both, split, first-most}
 use Rattle.basis.proofs.Checks.{first_holds, first-fails, tells-success, append-holds, append-fails, no_more, ◌also◌, tells_one, goes_on, refuses}

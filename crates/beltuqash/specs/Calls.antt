@@ -2,8 +2,7 @@
 -- and what comes after them.
 use Rattle.std.specs.Prelude.{ℕ, ◌-◌, ◌≡◌, ◌&&◌, List, [], ◌∷◌, ◌++◌, length, ltb, leb, is_ok}
 use Rattle.basis.specs.Numbers as numbers
-use Rattle.basis.specs.declared.answer.Answer.{Answer}
-use Rattle.basis.specs.Answer.{answer, success, word_of, Outcome}
+use Rattle.basis.specs.Answer.{Answer, answer, success, word_of, Outcome}
 use Rattle.basis.specs.Checks.{Check, check, all_hold, tells, checked}
 use Rattle.levels.specs.Levels.{count}
 use Rattle.levels.specs.Lattice.{lattice}
@@ -86,6 +85,10 @@ answered sheet store reader request out =
 -- **Hand-out** takes sheet, store, reader level and request and writes the dealer's answer.
 unfoldable pub hand_out : List ℕ → List ℕ → ℕ → List ℕ → List ℕ → Outcome
 hand_out sheet store reader request out = checked (hand_out_checks sheet store reader request (length out)) out (answered sheet store reader request out)
+
+-- an answer and the output afterwards are an outcome
+abbrev pub Comes : Outcome → Answer → List ℕ → Type 0
+Comes outcome answer out = (answer ≡ outcome.answer) × (out ≡ outcome.out)
 
 -- what a call promises: the word that it answers is an answer's,
 abbrev pub Tells : Answer → ℕ → Type 0

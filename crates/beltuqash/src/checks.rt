@@ -1,106 +1,120 @@
 // The checks of each call, in the order of document 01's table: what the list of `specs/Calls` tells.
-ghost use Rattle.std.specs.Prelude.{◌≡◌, ◌++◌};
-ghost use Rattle.basis.specs.Checks.{tells};
-ghost use Rattle.store.specs.Marks.{mode_of};
+ghost use Rattle.std.specs.Prelude.{◌++◌, IfOk};
+ghost use Rattle.basis.specs.Checks.{Judges};
+ghost use Rattle.store.specs.declared.Mode.TheVariants.{Permissive};
 ghost use Rattle.sheet.specs.Inside.Loaded.{Loaded};
-ghost use Rattle.beltuqash.specs.Calls.{load, sheet_checks, store_checks, run_checks, hand_out_checks, request_checks};
-ghost use Rattle.beltuqash.specs.Inside.Given.{Taken};
+ghost use Rattle.beltuqash.specs.Calls.{sheet_checks, store_checks, run_checks, hand_out_checks, request_checks};
+ghost use Rattle.beltuqash.specs.Inside.Given.{Taken, Asks};
 
-use basis::answer::{Answer, refusal, success};
-use basis::numbers;
-use handout::{answers, requests};
+use basis::answer::Refusal;
+use basis::numbers::Number;
+use handout::answers::HandOut;
+use handout::requests::Request;
+use levels::Levels;
 use sections::Parts;
+use store::Mode;
 
-// A hand-out takes any mark that the sheet knows, as a permissive run does.
-const PERMISSIVE: u32 = 1;
-
-// What load answers.
-pub fn judge_sheet(sheet: &[u8]) -> Answer
-    ensures { result ≡ load sheet.now }
+/// What load answers.
+pub fn judge_sheet(sheet: &[u8]) -> Result<(), Refusal>
+    ensures { Judges (sheet_checks sheet.now) result }
 {
+    // No `From` and `?`: that the place fits is known of a sheet's error, and not of every `SheetError`.
     match sheet::load(sheet) {
-        Ok(()) => success(0),
-        Err(wrong) => refusal(wrong.number(), wrong.place() as u16),
+        Ok(()) => Ok(()),
+        Err(wrong) => Err(Refusal::at(wrong.number(), wrong.place() as u16)),
     }
 }
 
 // A store, beside a sheet that passes: 8 and 9.
-fn judge_store(sheet: &[u8], store: &[u8], mode: u32) -> Answer
+fn judge_store(sheet: &[u8], store: &[u8], mode: Mode) -> Result<(), Refusal>
     requires { Loaded sheet.now }
-    ensures { result ≡ tells (store_checks sheet.now store.now (mode_of mode)) }
+    ensures { Judges (store_checks sheet.now store.now mode) result }
 {
     let parts = Parts::of(sheet);
     let fields = parts.fields.len() / 8;
     if !store::fits(store, fields) {
-        return refusal(numbers::STORE_MISFIT, 0);
+        return Err(Number::StoreMisfit.into());
     }
     if !store::marks_right(store, mode, parts.levels.len() / 2, fields) {
-        return refusal(numbers::MARK_WRONG, 0);
+        return Err(Number::MarkWrong.into());
     }
-    success(0)
+    Ok(())
 }
 
 // A sheet and a store.
-fn judge_both(sheet: &[u8], store: &[u8], mode: u32) -> Answer
-    ensures { result ≡ tells (sheet_checks sheet.now ++ store_checks sheet.now store.now (mode_of mode)) }
+fn judge_both(sheet: &[u8], store: &[u8], mode: Mode) -> Result<(), Refusal>
+    ensures { Judges (sheet_checks sheet.now ++ store_checks sheet.now store.now mode) result }
 {
-    let verdict = judge_sheet(sheet);
-    if verdict.number != numbers::DONE {
-        return verdict;
-    }
+    judge_sheet(sheet)?;
     judge_store(sheet, store, mode)
 }
 
-// A run, whose output has so much room.
-pub fn judge_run(sheet: &[u8], store: &[u8], mode: u32, fuel: u32, room: usize) -> Answer
-    ensures { result ≡ tells (run_checks sheet.now store.now mode fuel room) }
-{
-    if (1 < mode) | (1000000 < fuel) {
-        return refusal(numbers::MODE_OR_FUEL, 0);
-    }
-    let refused = judge_both(sheet, store, mode);
-    if refused.number != numbers::DONE {
-        return refused;
-    }
-    if room < store::length(Parts::of(sheet).fields.len() / 8) {
-        return refusal(numbers::OUT_SHORT, 0);
-    }
-    success(0)
-}
-
-// A hand-out, whose answer has so much room.
-pub fn judge_hand_out(
+/// A run, whose output has so much room.
+pub fn judge_run(
     sheet: &[u8],
     store: &[u8],
-    reader: u32,
-    request: &[u8],
+    mode: u32,
+    fuel: u32,
     room: usize,
-) -> Answer
-    ensures { result ≡ tells (hand_out_checks sheet.now store.now reader request.now room) }
+) -> Result<(), Refusal>
+    ensures { Judges (run_checks sheet.now store.now mode fuel room) result }
 {
-    let refused = judge_both(sheet, store, PERMISSIVE);
-    if refused.number != numbers::DONE {
-        return refused;
+    if (1 < mode) | (1000000 < fuel) {
+        return Err(Number::ModeOrFuel.into());
     }
+    judge_both(sheet, store, Mode::from(mode))?;
+    if room < store::length(Parts::of(sheet).fields.len() / 8) {
+        return Err(Number::OutShort.into());
+    }
+    Ok(())
+}
+
+/// A hand-out, whose answer has so much room. It takes any mark that the sheet knows, as a permissive run does.
+pub fn judge_hand_out<'a>(
+    sheet: &'a [u8],
+    store: &'a [u8],
+    reader: u32,
+    request: &'a [u8],
+    room: usize,
+) -> Result<HandOut<'a>, Refusal>
+    ensures told { Judges (hand_out_checks sheet.now store.now reader request.now room) result }
+    ensures asked { IfOk result (λ h. Asks sheet.now store.now reader request.now h) }
+{
+    judge_both(sheet, store, Mode::Permissive)?;
     judge_request(sheet, store, reader, request, room)
 }
 
 // A request, of a store that a hand-out takes: 17, 11 and 18.
-fn judge_request(sheet: &[u8], store: &[u8], reader: u32, request: &[u8], room: usize) -> Answer
-    requires { Taken sheet.now store.now (mode_of 1) }
-    ensures { result ≡ tells (request_checks sheet.now store.now reader request.now room) }
+fn judge_request<'a>(
+    sheet: &'a [u8],
+    store: &'a [u8],
+    reader: u32,
+    request: &'a [u8],
+    room: usize,
+) -> Result<HandOut<'a>, Refusal>
+    requires { Taken sheet.now store.now Permissive }
+    ensures told { Judges (request_checks sheet.now store.now reader request.now room) result }
+    ensures asked { IfOk result (λ h. Asks sheet.now store.now reader request.now h) }
 {
     let parts = Parts::of(sheet);
-    let known = (reader as usize) < parts.levels.len() / 2;
-    if !(known & requests::right(request, parts.fields.len() / 8)) {
-        return refusal(numbers::READER_OR_REQUEST, 0);
+    let reader = reader as usize;
+    let Some(request) = Request::new(request, parts.fields.len() / 8) else {
+        return Err(Number::ReaderOrRequest.into());
+    };
+    if parts.levels.len() / 2 <= reader {
+        return Err(Number::ReaderOrRequest.into());
     }
-    if room < answers::length(request) {
-        return refusal(numbers::OUT_SHORT, 0);
+    let hand_out = HandOut {
+        levels: Levels { rows: parts.levels },
+        store,
+        reader,
+        request,
+    };
+    if room < hand_out.length() {
+        return Err(Number::OutShort.into());
     }
-    let first = answers::first_refusing(parts.levels, store, reader as usize, request);
-    if first < requests::count(request) {
-        return refusal(numbers::PARTIAL_ASKED, first as u16);
+    match hand_out.first_refusing() {
+        Some(position) => Err(Refusal::at(Number::PartialAsked, position as u16)),
+        None => Ok(hand_out),
     }
-    success(0)
 }

@@ -1,19 +1,22 @@
-// The calls as C makes them: those of `beltuqash`, with their contracts.
+// The calls as C makes them: those of `beltuqash`, each with its answer in one word.
 #![tactic(auto)]
 
 ghost use Rattle.std.specs.Prelude.{◌≡◌};
+ghost use Rattle.basis.specs.Answer.{word_of, answer_of};
 ghost use Rattle.beltuqash.specs.Calls.{load, run, hand_out, Tells, Yields};
 
-// Judges a sheet.
+use basis::answer::Refusal;
+
+/// Judges a sheet.
 #[unsafe(no_mangle)]
 pub extern "C" fn beltuqash_load(sheet: &[u8]) -> u64
     ensures tells { Tells (load sheet.now) result }
     ensures kept { sheet.exit.now ≡ sheet.entry.now }
 {
-    beltuqash::beltuqash_load(sheet)
+    word(beltuqash::load(sheet).map(|()| 0))
 }
 
-// Runs a sheet from a store in mode 0 (strict) or 1 (permissive), and writes the final store.
+/// Runs a sheet from a store in mode 0 (strict) or 1 (permissive), and writes the final store.
 #[unsafe(no_mangle)]
 pub extern "C" fn beltuqash_run(
     sheet: &[u8],
@@ -25,10 +28,10 @@ pub extern "C" fn beltuqash_run(
     ensures yields { Yields (run sheet.now store.now mode fuel out.old) result out.new }
     ensures kept { (sheet.exit.now ≡ sheet.entry.now) × (store.exit.now ≡ store.entry.now) }
 {
-    beltuqash::beltuqash_run(sheet, store, mode, fuel, out)
+    word(beltuqash::run(sheet, store, mode, fuel, out))
 }
 
-// Hands a reader what a request asks of a store, and writes the answer.
+/// Hands a reader what a request asks of a store, and writes the answer.
 #[unsafe(no_mangle)]
 pub extern "C" fn beltuqash_hand_out(
     sheet: &[u8],
@@ -40,5 +43,20 @@ pub extern "C" fn beltuqash_hand_out(
     ensures yields { Yields (hand_out sheet.now store.now reader request.now out.old) result out.new }
     ensures kept { (sheet.exit.now ≡ sheet.entry.now) × (store.exit.now ≡ store.entry.now) × (request.exit.now ≡ request.entry.now) }
 {
-    beltuqash::beltuqash_hand_out(sheet, store, reader, request, out)
+    word(beltuqash::hand_out(sheet, store, reader, request, out).map(|()| 0))
+}
+
+// The word of an answer: number, place and units.
+fn word(answer: Result<u32, Refusal>) -> u64
+    ensures { result ≡ word_of (answer_of answer) }
+{
+    match answer {
+        Ok(units) => u64::from(units) << 32,
+        Err(refusal) => {
+            let number = u64::from(u8::from(refusal.number));
+            let place = u64::from(refusal.place) << 8;
+            let units = u64::from(refusal.units) << 32;
+            number + place + units
+        }
+    }
 }

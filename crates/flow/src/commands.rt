@@ -6,7 +6,7 @@ ghost use Rattle.marks.specs.Inside.Parts.{nodes_in};
 ghost use Rattle.flow.specs.Inside.Tasks.{CmdIn, Assigned, Tested, Ran};
 
 use crate::eval::expression;
-use basis::numbers;
+use basis::numbers::Number;
 use marks::parts::{kind_in, slot_in};
 use marks::words::{STOP, in_context, left_in, mark_in, run_in, stop, value_in, with_left, word};
 use marks::{enter, store};
@@ -79,7 +79,7 @@ pub fn run(parts: &[&[u8]; 3], work: &mut [u64; 64], first: usize, start: u64, f
             n = slot_in(parts, n, 1);
         } else {
             if left == 0 {
-                return stop(numbers::FUEL_SPENT, n);
+                return stop(Number::FuelSpent, n);
             }
             left -= 1;
             if kind < 7 {

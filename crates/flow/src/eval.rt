@@ -8,7 +8,7 @@ ghost use Rattle.marks.specs.Inside.Words.{Place, mark_in, Goes};
 ghost use Rattle.marks.specs.Inside.Meanings.{Joins};
 ghost use Rattle.flow.specs.Inside.Tasks.{meaning_in, ExpIn, Evaluated, Operated};
 
-use basis::numbers;
+use basis::numbers::Number;
 use marks::parts::{constant_in, kind_in, op_in, slot_in};
 use marks::words::{STOP, mark_in, stop, value_in, word};
 use marks::{constant, join, read, sealed};
@@ -21,8 +21,8 @@ fn operate(parts: &[&[u8]; 3], left: u64, n: usize, right: u64, run: u32) -> u64
 {
     match Operator::from(op_in(parts, n)).apply(value_in(left), value_in(right)) {
         Ok(v) => word(v, join(parts, run, mark_in(left), mark_in(right))),
-        Err(ArithmeticError::OutOfRange(_)) => stop(numbers::OUT_OF_RANGE, n),
-        Err(ArithmeticError::DivisorZero) => stop(numbers::DIVISOR_ZERO, n),
+        Err(ArithmeticError::OutOfRange(_)) => stop(Number::OutOfRange, n),
+        Err(ArithmeticError::DivisorZero) => stop(Number::DivisorZero, n),
     }
 }
 

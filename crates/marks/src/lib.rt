@@ -12,7 +12,7 @@ ghost use Rattle.marks.specs.Inside.Parts.{rows_in};
 ghost use Rattle.marks.specs.Inside.Words.{run_in, context_in};
 ghost use Rattle.marks.specs.Inside.Meanings.{meaning, Constant, Sealed, Read, Joined, Entered, Stored, Joins, Enters, Stores, First};
 
-use basis::numbers;
+use basis::numbers::Number;
 use levels::Levels;
 use parts::rows_in;
 use words::{constant_mark, context_in, run_in, run_of, seal_mark, stop, style_in, task};
@@ -62,7 +62,7 @@ pub fn enter(parts: &[&[u8]; 3], task: u64, n: usize, m: u32) -> u64
         return m as u64;
     }
     if store::is_partial(m) {
-        return stop(numbers::PARTIAL_TEST, n);
+        return stop(Number::PartialTest, n);
     }
     level_marks::join(rows_in(parts), context, m) as u64
 }
@@ -82,7 +82,7 @@ pub fn store(parts: &[&[u8]; 3], task: u64, n: usize, old: u32, m: u32) -> u64
         return level_marks::join(rows, m, context) as u64;
     }
     if style_in(run_in(task)) == STRICT {
-        return stop(numbers::NOT_BELOW, n);
+        return stop(Number::NotBelow, n);
     }
     level_marks::lowered(rows, context, old) as u64
 }

@@ -1,9 +1,11 @@
 // Numbers that hold several: a value with its mark, a stop, a task. So what recursive functions are given and answer is handed on in registers.
 // `Inside/Words` gives such numbers their meaning and lists their layouts; no other module knows them.
 ghost use Rattle.std.specs.Prelude.{◌≡◌, ◌<◌};
-ghost use Rattle.marks.specs.Inside.Words.{number_room, Place, value_in, mark_in, Word, Stops, left_in, place_in, number_in, Stop, run_in, context_in, InContext};
+ghost use Rattle.basis.specs.Numbers.{number_of};
+ghost use Rattle.marks.specs.Inside.Words.{Place, value_in, mark_in, Word, Stops, left_in, place_in, number_in, Stop, run_in, context_in, InContext};
 ghost use Rattle.marks.specs.Inside.Meanings.{constant_from, seal_from, style_in, constant_in, seal_in, Run};
 
+use basis::numbers::Number;
 use value::Value;
 
 // Words from here on are stops.
@@ -46,11 +48,11 @@ pub fn mark_in(word: u64) -> u32
 }
 
 // Why and where a run stops.
-pub fn stop(number: u8, place: usize) -> u64
-    requires { (number < number_room) × Place place }
-    ensures { Stop number place 0 result }
+pub fn stop(number: Number, place: usize) -> u64
+    requires { Place place }
+    ensures { Stop (number_of number) place 0 result }
 {
-    STOP + number as u64 * NUMBER + place as u64 * UPPER
+    STOP + u64::from(u8::from(number)) * NUMBER + place as u64 * UPPER
 }
 
 // A stop's word with the fuel left.

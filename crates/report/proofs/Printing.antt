@@ -3,7 +3,7 @@ use Prim.Native.Nat.{ℕ, ◌/◌, ◌^◌, ◌≤◌, ◌<◌}
 use native.Mathlib.Omega.{arith}
 use mathlib.Core.List.{List}
 use lib.ListN.{length, get_or, length-append}
-use Rattle.basis.specs.declared.answer.Answer.{Answer}
+use Rattle.basis.specs.Answer.{Answer}
 use Rattle.store.specs.Stores.{entry_at}
 use Rattle.report.specs.Text.{part, field_line, done_text, refused_text}
 use Rattle.report.specs.Report.{longest}

@@ -1,8 +1,9 @@
 // What load refuses a sheet with. `specs/Verdict` gives each case its number in document 01's table.
 ghost use Rattle.std.specs.Prelude.{◌≡◌};
+ghost use Rattle.basis.specs.Numbers.{number_of};
 ghost use Rattle.sections.specs.Verdict.{fault_number, error_number, error_place};
 
-use basis::numbers;
+use basis::numbers::Number;
 
 /// The first thing that is wrong with a sheet.
 #[derive(Clone, Copy, Debug, PartialEq, Eq)]
@@ -38,31 +39,31 @@ pub enum Fault {
 
 impl Fault {
     /// Its number in document 01's table.
-    pub fn number(self) -> u8
-        ensures { result ≡ fault_number self }
+    pub fn number(self) -> Number
+        ensures { number_of result ≡ fault_number self }
     {
         match self {
-            Fault::Unknown => numbers::NODE_UNKNOWN,
-            Fault::Unused => numbers::NODE_UNUSED,
-            Fault::Range => numbers::NODE_RANGE,
-            Fault::Sort => numbers::NODE_SORT,
+            Fault::Unknown => Number::NodeUnknown,
+            Fault::Unused => Number::NodeUnused,
+            Fault::Range => Number::NodeRange,
+            Fault::Sort => Number::NodeSort,
         }
     }
 }
 
 impl SheetError {
     /// Its number in document 01's table.
-    pub fn number(self) -> u8
-        ensures { result ≡ error_number self }
+    pub fn number(self) -> Number
+        ensures { number_of result ≡ error_number self }
     {
         match self {
-            SheetError::Length => numbers::SHEET_LENGTH,
-            SheetError::Count => numbers::COUNT_OUTSIDE,
-            SheetError::Levels => numbers::LEVELS_WRONG,
-            SheetError::Name => numbers::NAME_WRONG,
+            SheetError::Length => Number::SheetLength,
+            SheetError::Count => Number::CountOutside,
+            SheetError::Levels => Number::LevelsWrong,
+            SheetError::Name => Number::NameWrong,
             SheetError::Node(fault, _) => fault.number(),
-            SheetError::Uses => numbers::NOT_USED_ONCE,
-            SheetError::Depth => numbers::TOO_DEEP,
+            SheetError::Uses => Number::NotUsedOnce,
+            SheetError::Depth => Number::TooDeep,
         }
     }
 

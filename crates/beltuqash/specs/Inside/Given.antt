@@ -1,7 +1,5 @@
 -- What is given once checks have passed.
 use Rattle.std.specs.Prelude.{ℕ, ◌≤◌, ◌<◌, ◌≡◌, true, List}
-use Rattle.basis.specs.declared.answer.Answer.{Answer}
-use Rattle.basis.specs.Answer.{Outcome}
 use Rattle.levels.specs.Levels.{count}
 use Rattle.sections.specs.Sections.{levels_of}
 use Rattle.sheet.specs.Load.{field_count}
@@ -11,6 +9,7 @@ use Rattle.store.specs.declared.Mode.TheVariants.{Permissive}
 use Rattle.store.specs.Marks.{mode_of}
 use Rattle.store.specs.Stores.{store_length, store_fits, marks_right}
 use Rattle.handout.specs.Requests.{request_right}
+use Rattle.handout.specs.declared.answers.HandOut.{HandOut}
 
 -- a sheet that passes, and a store that fits it with right marks
 pub record Taken (sheet store : List ℕ) (mode : Mode) : Type 0 where
@@ -31,6 +30,9 @@ pub record Requested (sheet store : List ℕ) (reader : ℕ) (request : List ℕ
   pub reader-known : reader < count (levels_of sheet)
   pub right_request : request_right (field_count sheet) request ≡ true
 
--- an answer and the output afterwards are an outcome
-abbrev pub Comes : Outcome → Answer → List ℕ → Type 0
-Comes outcome answer out = (answer ≡ outcome.answer) × (out ≡ outcome.out)
+-- the hand-out that this is
+pub record Asks (sheet store : List ℕ) (reader : ℕ) (request : List ℕ) (h : HandOut) : Type 0 where
+  pub levels : h.levels.rows.now ≡ levels_of sheet
+  pub store : h.store.now ≡ store
+  pub reader : h.reader ≡ reader
+  pub request : h.request.bytes.now ≡ request

@@ -1,21 +1,20 @@
--- What the sheet's checks tell is told; where they tell success, the store's decide.
-use mathlib.Core.Path.{sym, ap, ◌∙◌}
-use Rattle.basis.specs.declared.answer.Answer.{Answer}
-use Rattle.basis.proofs.Checks.{append-holds, append-fails, all_hold_lem, some-fails}
-use Rattle.beltuqash.specs.Calls.{load}
-use Rattle.beltuqash.proofs.Checking.{sheet_numbered, sheet_holds}
+-- What the sheet's checks tell is told; where all hold, the store's decide.
+use Rattle.std.proofs.lemmas.Result.{err_from_is_err_and}
+use Rattle.basis.proofs.Checks.{judge_append, judge_before}
+use Rattle.store.specs.Marks.{mode_of}
+use Rattle.beltuqash.specs.Calls.{sheet_checks, store_checks}
+use Rattle.beltuqash.proofs.Checking.{sheet_holds}
 use Rattle.beltuqash.proofs.checks.judge_both.Goals as goal
 
-pub returns-then-verdict-ne-DONE : goal.returns-then-verdict-ne-DONE
-unfolding load
-returns-then-verdict-ne-DONE c =
-    let told = c.judge_sheet-verdict.ensures in
-    told ∙ sym (append-fails _ _ (some-fails _ (λ e. c.if-verdict-ne-DONE.true (ap (λ (a : Answer). a.number) told ∙ e)))).1
+pub returns-in_err-judge_sheet : goal.returns-in_err-judge_sheet
+returns-in_err-judge_sheet c =
+    let p = err_from_is_err_and c.from_residual.result c.from_residual.ensures.1 in
+    rw (p.1, p.2) (judge_before (sheet_checks c.args.sheet.now) _ _ c.in_err-judge_sheet.ensures)
 
 pub judge_store-requires : goal.judge_store-requires
-unfolding load
-judge_store-requires c = sheet_holds _ (all_hold_lem _ (sheet_numbered _) (ap (λ (a : Answer). a.number) (sym c.judge_sheet-verdict.ensures) ∙ c.if-verdict-ne-DONE.false))
+judge_store-requires c = sheet_holds _ c.in_ok-judge_sheet.ensures
 
 pub returns : goal.returns
-unfolding load
-returns c = c.judge_store.ensures ∙ sym (append-holds _ _ (all_hold_lem _ (sheet_numbered _) (ap (λ (a : Answer). a.number) (sym c.judge_sheet-verdict.ensures) ∙ c.if-verdict-ne-DONE.false))).1
+returns c =
+    let a = c.args in
+    judge_append (sheet_checks a.sheet.now) (store_checks a.sheet.now a.store.now (mode_of a.mode)) c.in_ok-judge_sheet.ensures c.judge_store.result c.judge_store.ensures

@@ -1,17 +1,23 @@
--- What the checks of sheet and store tell is told; where they tell success, the request's decide.
-use mathlib.Core.Path.{sym, ap, ◌∙◌}
-use Rattle.basis.specs.declared.answer.Answer.{Answer}
-use Rattle.basis.proofs.Checks.{append-holds, append-fails, all_hold_lem, some-fails}
-use Rattle.beltuqash.proofs.Checking.{both_numbered, both_hold}
+-- What the checks of sheet and store tell is told; where all hold, the request's decide.
+use mathlib.Core.List.{◌++◌}
+use Rattle.std.proofs.lemmas.Result.{err_from_is_err_and}
+use Rattle.basis.proofs.Checks.{judge_append, judge_before}
+use Rattle.store.specs.declared.Mode.TheVariants.{Permissive}
+use Rattle.beltuqash.specs.Calls.{sheet_checks, store_checks, request_checks}
+use Rattle.beltuqash.proofs.Checking.{both_hold}
 use Rattle.beltuqash.proofs.checks.judge_hand_out.Goals as goal
 
-pub returns-then-refused-ne-DONE : goal.returns-then-refused-ne-DONE
-returns-then-refused-ne-DONE c =
-    let told = c.judge_both-refused.ensures in
-    told ∙ sym (append-fails _ _ (some-fails _ (λ e. c.if-refused-ne-DONE.true (ap (λ (a : Answer). a.number) told ∙ e)))).1
+pub returns-in_err-judge_both : goal.returns-in_err-judge_both
+returns-in_err-judge_both c =
+    let a = c.args in
+    let p = err_from_is_err_and c.from_residual.result c.from_residual.ensures.1 in
+    rw (p.1, p.2) (judge_before (sheet_checks a.sheet.now ++ store_checks a.sheet.now a.store.now Permissive) _ _ c.in_err-judge_both.ensures)
 
 pub judge_request-requires : goal.judge_request-requires
-judge_request-requires c = both_hold _ _ _ (all_hold_lem _ (both_numbered _ _ _) (ap (λ (a : Answer). a.number) (sym c.judge_both-refused.ensures) ∙ c.if-refused-ne-DONE.false))
+judge_request-requires c = both_hold _ _ _ c.in_ok-judge_both.ensures
 
 pub returns : goal.returns
-returns c = c.judge_request.ensures ∙ sym (append-holds _ _ (all_hold_lem _ (both_numbered _ _ _) (ap (λ (a : Answer). a.number) (sym c.judge_both-refused.ensures) ∙ c.if-refused-ne-DONE.false))).1
+returns c =
+    let a = c.args in
+    judge_append (sheet_checks a.sheet.now ++ store_checks a.sheet.now a.store.now Permissive) (request_checks a.sheet.now a.store.now a.reader a.request.now a.room)
+    c.in_ok-judge_both.ensures c.judge_request.result c.judge_request.ensures

@@ -7,11 +7,14 @@ use mathlib.Core.Bool.{Bool, true, false, ◌&&◌, ◌||◌, true≢false}
 use mathlib.Core.List.{List, [], ◌∷◌, ◌++◌}
 use lib.Dec.{ltb, leb}
 use lib.ListN.{length}
-use Rattle.basis.specs.declared.answer.Answer.{Answer}
+use Rattle.std.specs.Prelude.{Result, Ok, Err}
+use Rattle.std.proofs.lemmas.Result.{err_from_is_err_and}
+use Rattle.basis.specs.declared.answer.Refusal.{Refusal}
+use Rattle.basis.specs.Answer.{refused}
 use Rattle.basis.specs.Numbers as numbers
-use Rattle.basis.specs.Checks.{Check, check, all_hold, tells}
+use Rattle.basis.specs.Checks.{Check, check, all_hold, Judges}
 use Rattle.basis.proofs.Tests.{both, and_of_lem, is_false}
-use Rattle.basis.proofs.Checks.{first_holds, first-fails, append-holds, append-fails, all_hold_lem, some-fails}
+use Rattle.basis.proofs.Checks.{judge_next, judge_fails, judge_append, judge_before}
 use Rattle.sheet.specs.Load.{field_count}
 use Rattle.store.specs.Marks.{mode_of}
 use Rattle.store.specs.Stores.{store_length}
@@ -41,64 +44,53 @@ module _ (mode fuel : ℕ) where
       let (low, few) = neither (ltb 1 mode) _ h in
       and_of_lem (le-leb mode 1 (ltb-false 1 mode low)) (le-leb fuel 1000000 (ltb-false 1000000 fuel few))
 
--- the checks of sheet and store, then the last: past mode and fuel they decide, and past the first two the last does
+-- the checks of sheet and store, then the last
 module _ (sheet store : List ℕ) (mode fuel room : ℕ) where
   abbrev both_checks : List Check
   both_checks = sheet_checks sheet ++ store_checks sheet store (mode_of mode)
 
-  abbrev long : ℕ
-  long = store_length (field_count sheet)
-
   abbrev room_check : Check
-  room_check = check (leb long room) numbers.out_short 0
+  room_check = check (leb (store_length (field_count sheet)) room) numbers.out_short 0
 
   module _ (h : (ltb 1 mode || ltb 1000000 fuel) ≡ false) where
-    past_asked : tells (run_checks sheet store mode fuel room) ≡ tells (both_checks ++ room_check ∷ [])
-    past_asked = (first_holds (check (asked mode fuel) numbers.mode_or_fuel 0) (both_checks ++ room_check ∷ []) (rightly_asked mode fuel h)).1
+    past_asked : (found : Result (Unit {0}) Refusal) → Judges (both_checks ++ room_check ∷ []) found → Judges (run_checks sheet store mode fuel room) found
+    past_asked = judge_next (check (asked mode fuel) numbers.mode_or_fuel 0) (both_checks ++ room_check ∷ []) (rightly_asked mode fuel h)
 
-    module _ {told : Answer} (is : told ≡ tells both_checks) where
-      refused_both : (told.number ≡ 0 → ⊥) → told ≡ tells (run_checks sheet store mode fuel room)
-      refused_both n =
-          is ∙ sym (past_asked ∙ (append-fails (room_check ∷ []) both_checks (some-fails both_checks (λ e. n (ap (λ (x : Answer). x.number) is ∙ e)))).1)
+    -- what is found of sheet and store, or after them
+    refuses_both : (r : Refusal) → Judges both_checks (Err r) → Judges (run_checks sheet store mode fuel room) (Err r)
+    refuses_both r told = past_asked (Err r) (judge_before both_checks (room_check ∷ []) r told)
 
-      holds : told.number ≡ 0 → all_hold both_checks ≡ true
-      holds e = all_hold_lem both_checks (both_numbered sheet store (mode_of mode)) (ap (λ (x : Answer). x.number) (sym is) ∙ e)
+    past_both : all_hold both_checks ≡ true → (found : Result (Unit {0}) Refusal) → Judges (room_check ∷ []) found → Judges (run_checks sheet store mode fuel room) found
+    past_both hold found judged = past_asked found (judge_append both_checks (room_check ∷ []) hold found judged)
 
-      past_store : told.number ≡ 0 → tells (run_checks sheet store mode fuel room) ≡ tells (room_check ∷ [])
-      past_store e = past_asked ∙ (append-holds (room_check ∷ []) both_checks (holds e)).1
-
-pub returns-then-refused-ne-DONE : goal.returns-then-refused-ne-DONE
-returns-then-refused-ne-DONE c =
+pub returns-then-mode-fuel : goal.returns-then-mode-fuel
+returns-then-mode-fuel c =
     let a = c.args in
-    refused_both a.sheet.now a.store.now a.mode a.fuel a.room c.if-mode-fuel.false c.judge_both-refused.ensures c.if-refused-ne-DONE.true
+    judge_fails (check (asked a.mode a.fuel) numbers.mode_or_fuel 0) _ (wrongly_asked a.mode a.fuel c.if-mode-fuel.true) _ (ap refused c.into.ensures)
+
+pub returns-in_err-judge_both : goal.returns-in_err-judge_both
+returns-in_err-judge_both c =
+    let a = c.args in
+    let p = err_from_is_err_and c.from_residual.result c.from_residual.ensures.1 in
+    rw (p.1, p.2) (refuses_both a.sheet.now a.store.now a.mode a.fuel a.room c.if-mode-fuel.false _ c.in_err-judge_both.ensures)
 
 pub length-requires : goal.length-requires
 length-requires c =
-    let a = c.args in
-    let hold = holds a.sheet.now a.store.now a.mode a.fuel a.room c.if-mode-fuel.false c.judge_both-refused.ensures c.if-refused-ne-DONE.false in
-    let taken = both_hold a.sheet.now a.store.now (mode_of a.mode) hold in
+    let taken = both_hold _ _ _ c.in_ok-judge_both.ensures in
     omega (arith, ap (λ (l : List ℕ). length l / 8) c.of.ensures.fields, few-fields _ taken.loaded)
 
 pub returns-then-room-length : goal.returns-then-room-length
 returns-then-room-length c =
     let a = c.args in
-    let past = past_store a.sheet.now a.store.now a.mode a.fuel a.room c.if-mode-fuel.false c.judge_both-refused.ensures c.if-refused-ne-DONE.false in
     let length_is = c.length.ensures ∙ ap (λ (l : List ℕ). store_length (length l / 8)) c.of.ensures.fields in
-    let length = store_length (field_count a.sheet.now) in
-    let short = lt-leb length a.room (omega (arith, c.if-room-length.true, length_is)) in
-    c.refusal-then-room-length.ensures ∙ sym (past ∙ (first-fails (check (leb length a.room) numbers.out_short 0) [] short).1)
+    let short = lt-leb (store_length (field_count a.sheet.now)) a.room (omega (arith, c.if-room-length.true, length_is)) in
+    past_both a.sheet.now a.store.now a.mode a.fuel a.room c.if-mode-fuel.false c.in_ok-judge_both.ensures (Err _)
+    (judge_fails (room_check a.sheet.now a.store.now a.mode a.fuel a.room) [] short _ (ap refused c.into-then-room-length.ensures))
 
 pub returns : goal.returns
-unfolding tells
+unfolding all_hold
 returns c =
     let a = c.args in
-    let past = past_store a.sheet.now a.store.now a.mode a.fuel a.room c.if-mode-fuel.false c.judge_both-refused.ensures c.if-refused-ne-DONE.false in
     let length_is = c.length.ensures ∙ ap (λ (l : List ℕ). store_length (length l / 8)) c.of.ensures.fields in
-    let length = store_length (field_count a.sheet.now) in
-    let enough = le-leb length a.room (omega (arith, c.if-room-length.false, length_is)) in
-    c.success.ensures ∙ sym (past ∙ (first_holds (check (leb length a.room) numbers.out_short 0) [] enough).1)
-
-pub returns-then-mode-fuel : goal.returns-then-mode-fuel
-returns-then-mode-fuel c =
-    let a = c.args in
-    c.refusal.ensures ∙ sym (first-fails (check (asked a.mode a.fuel) numbers.mode_or_fuel 0) _ (wrongly_asked a.mode a.fuel c.if-mode-fuel.true)).1
+    let enough = le-leb (store_length (field_count a.sheet.now)) a.room (omega (arith, c.if-room-length.false, length_is)) in
+    past_both a.sheet.now a.store.now a.mode a.fuel a.room c.if-mode-fuel.false c.in_ok-judge_both.ensures (Ok tt) (and_of_lem enough refl)

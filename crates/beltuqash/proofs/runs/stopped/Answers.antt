@@ -1,7 +1,11 @@
 -- The number, the place and the units in the word are those of the end.
-use mathlib.Core.Path.{sym}
+use mathlib.Core.Path.{◌≡◌, sym, ◌∙◌}
+use Rattle.basis.specs.Numbers.{number_of}
+use Rattle.marks.specs.Inside.Words.{number_in}
 use Rattle.beltuqash.proofs.Running.{stop_answer}
 use Rattle.beltuqash.proofs.runs.stopped.Goals as goal
 
 pub returns : goal.returns
-returns c = λ fields out. rw (c.number_in.ensures, c.place_told.ensures, c.left_in.ensures) (sym (stop_answer c.args.word c.args.fuel c.requires.0 fields out))
+returns c = λ fields out.
+    let number_is : number_of c.unwrap.result ≡ number_in c.args.word = rw c.unwrap.ensures at c.try_from.ensures ∙ c.number_in.ensures in
+    rw (number_is, c.place_told.ensures, c.left_in.ensures) (sym (stop_answer c.args.word c.args.fuel c.requires.0 fields out))

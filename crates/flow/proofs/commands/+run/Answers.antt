@@ -66,7 +66,7 @@ loop-work-preserved-then-kind-eq7 t c =
 -- ── any other command ───────────────────────────────────────────────────────────────────────
 
 pub stop-requires : goal.stop-requires
-stop-requires t c = (omega arith, node-few _ _ _ _ _ c.loop-work.invariant)
+stop-requires t c = node-few _ _ _ _ _ c.loop-work.invariant
 
 pub returns-then-left-eq0 : goal.returns-then-left-eq0
 returns-then-left-eq0 t c = run-spent _ _ _ _ _ c.loop-work.invariant (λ seven. c.if-kind-eq7.false (c.kind_in-kind.ensures ∙ seven)) c.if-left-eq0.true c.stop.ensures
