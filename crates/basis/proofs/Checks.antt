@@ -8,7 +8,7 @@ use Rattle.basis.specs.Numbers as numbers
 use Rattle.std.specs.Prelude.{Result, Ok, Err}
 use Rattle.basis.specs.declared.answer.Refusal.{Refusal}
 use Rattle.basis.specs.Answer.{Answer, success, refusal, refused, verdict_of, Outcome}
-use Rattle.basis.specs.Checks.{Check, all_hold, tells, checked, Judges}
+use Rattle.basis.specs.Checks.{Check, all_hold, tells, checked, Refuses, Judges}
 use Rattle.basis.proofs.Tests.{split}
 
 -- the first check holds, or is told
@@ -118,19 +118,19 @@ judged_told checks (Ok _) holds = sym (tells-success checks holds)
 judged_told checks (Err r) (fails, told) = told
 
 -- past a check that holds, the rest is judged; one that does not hold is found
-module _ {A : Type 0} (c : Check) (rest : List Check) where
-  pub judge_next : c.holds ≡ true → (found : Result A Refusal) → Judges rest found → Judges (c ∷ rest) found
+module _ (c : Check) (rest : List Check) where
+  pub judge_next : {A : Type 0} → c.holds ≡ true → (found : Result A Refusal) → Judges rest found → Judges (c ∷ rest) found
   judge_next h (Ok _) holds = (first_holds c rest h).0 ∙ holds
   judge_next h (Err r) (fails, told) = ((first_holds c rest h).0 ∙ fails, told ∙ sym (first_holds c rest h).1)
 
-  pub judge_fails : c.holds ≡ false → (r : Refusal) → refused r ≡ refusal c.number c.place → Judges {A = A} (c ∷ rest) (Err r)
+  pub judge_fails : c.holds ≡ false → (r : Refusal) → refused r ≡ refusal c.number c.place → Refuses (c ∷ rest) r
   judge_fails f r is = ((first-fails c rest f).0, is ∙ sym (first-fails c rest f).1)
 
 -- past a list that holds, the next is judged; what is found of a list is found of it and more
-module _ {A : Type 0} (before after : List Check) where
-  pub judge_append : all_hold before ≡ true → (found : Result A Refusal) → Judges after found → Judges (before ++ after) found
+module _ (before after : List Check) where
+  pub judge_append : {A : Type 0} → all_hold before ≡ true → (found : Result A Refusal) → Judges after found → Judges (before ++ after) found
   judge_append h (Ok _) holds = (append-holds after before h).0 ∙ holds
   judge_append h (Err r) (fails, told) = ((append-holds after before h).0 ∙ fails, told ∙ sym (append-holds after before h).1)
 
-  pub judge_before : {B : Type 0} (r : Refusal) → Judges {A = B} before (Err r) → Judges {A = A} (before ++ after) (Err r)
+  pub judge_before : (r : Refusal) → Refuses before r → Refuses (before ++ after) r
   judge_before r (fails, told) = ((append-fails after before fails).0, told ∙ sym (append-fails after before fails).1)

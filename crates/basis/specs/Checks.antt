@@ -24,6 +24,10 @@ tells (c ∷ rest) = cond c.holds (tells rest) (refusal c.number c.place)
 unfoldable pub checked : List Check → List ℕ → Outcome → Outcome
 checked checks out next = cond (all_hold checks) next (record { answer = tells checks; out = out })
 
--- what the code finds is what the checks tell: no refusal where all hold, or else the refusal of the first that does not
+-- what the code finds is what the checks tell: the refusal of the first that does not hold,
+abbrev pub Refuses : List Check → Refusal → Type 0
+Refuses checks r = (all_hold checks ≡ false) × (refused r ≡ tells checks)
+
+-- or none where all hold
 abbrev pub Judges : {A : Type 0} → List Check → Result A Refusal → Type 0
-Judges checks found = MatchResult found (λ _. all_hold checks ≡ true) (λ r. (all_hold checks ≡ false) × (refused r ≡ tells checks))
+Judges checks found = MatchResult found (λ _. all_hold checks ≡ true) (Refuses checks)

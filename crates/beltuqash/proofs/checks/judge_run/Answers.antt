@@ -12,7 +12,7 @@ use Rattle.std.proofs.lemmas.Result.{err_from_is_err_and}
 use Rattle.basis.specs.declared.answer.Refusal.{Refusal}
 use Rattle.basis.specs.Answer.{refused}
 use Rattle.basis.specs.Numbers as numbers
-use Rattle.basis.specs.Checks.{Check, check, all_hold, Judges}
+use Rattle.basis.specs.Checks.{Check, check, all_hold, Refuses, Judges}
 use Rattle.basis.proofs.Tests.{both, and_of_lem, is_false}
 use Rattle.basis.proofs.Checks.{judge_next, judge_fails, judge_append, judge_before}
 use Rattle.sheet.specs.Load.{field_count}
@@ -57,7 +57,7 @@ module _ (sheet store : List ℕ) (mode fuel room : ℕ) where
     past_asked = judge_next (check (asked mode fuel) numbers.mode_or_fuel 0) (both_checks ++ room_check ∷ []) (rightly_asked mode fuel h)
 
     -- what is found of sheet and store, or after them
-    refuses_both : (r : Refusal) → Judges both_checks (Err r) → Judges (run_checks sheet store mode fuel room) (Err r)
+    refuses_both : (r : Refusal) → Refuses both_checks r → Refuses (run_checks sheet store mode fuel room) r
     refuses_both r told = past_asked (Err r) (judge_before both_checks (room_check ∷ []) r told)
 
     past_both : all_hold both_checks ≡ true → (found : Result (Unit {0}) Refusal) → Judges (room_check ∷ []) found → Judges (run_checks sheet store mode fuel room) found
