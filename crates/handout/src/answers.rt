@@ -14,7 +14,7 @@ use store::{is_partial, level_of, mark_at, value_at};
 // The bytes of an answer's entry: shown or not, then the value.
 const ENTRY: usize = 5;
 
-/// A request of a reader's at one of the levels, and the store that it is made to, with as many fields and marks that the levels know.
+/// What a reader asks of a store: he stands at one of the levels of right rows, and they know the marks of the store's fields.
 #[derive(Clone, Copy)]
 pub struct HandOut<'a> {
     pub levels: Levels<'a>,
