@@ -135,10 +135,9 @@ unfolding store_fits
 fits-long fields store e = eqb-true _ _ (both _ _ e).0
 
 -- a reader and a store that hand-out's functions take
-pub asks_as : {sheet store : List ℕ} {reader : ℕ} → Taken sheet store permissive → reader < count (levels_of sheet) → AsksAs (levels_of sheet) store (field_count sheet) reader
+pub asks_as : {sheet store : List ℕ} {reader : ℕ} → Taken sheet store Permissive → reader < count (levels_of sheet) → AsksAs (levels_of sheet) store (field_count sheet) reader
 asks_as taken known = record {
   long = fits-long _ _ taken.fits;
-  order = taken.loaded.levels;
   reader-known = known;
   marks = taken.marks;
 }

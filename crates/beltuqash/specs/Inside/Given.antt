@@ -30,9 +30,9 @@ pub record Requested (sheet store : List ℕ) (reader : ℕ) (request : List ℕ
   pub reader-known : reader < count (levels_of sheet)
   pub right_request : request_right (field_count sheet) request ≡ true
 
--- the hand-out that this is
-pub record Asks (sheet store : List ℕ) (reader : ℕ) (request : List ℕ) (h : HandOut) : Type 0 where
+-- the hand-out of a request, as it came in
+pub record Asks (sheet bytes : List ℕ) (level : ℕ) (asked : List ℕ) (h : HandOut) : Type 0 where
   pub levels : h.levels.rows.now ≡ levels_of sheet
-  pub store : h.store.now ≡ store
-  pub reader : h.reader ≡ reader
-  pub request : h.request.bytes.now ≡ request
+  pub store : h.store.now ≡ bytes
+  pub reader : h.reader ≡ level
+  pub request : h.request.bytes.now ≡ asked

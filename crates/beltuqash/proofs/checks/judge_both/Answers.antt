@@ -1,7 +1,6 @@
 -- What the sheet's checks tell is told; where all hold, the store's decide.
 use Rattle.std.proofs.lemmas.Result.{err_from_is_err_and}
 use Rattle.basis.proofs.Checks.{judge_append, judge_before}
-use Rattle.store.specs.Marks.{mode_of}
 use Rattle.beltuqash.specs.Calls.{sheet_checks, store_checks}
 use Rattle.beltuqash.proofs.Checking.{sheet_holds}
 use Rattle.beltuqash.proofs.checks.judge_both.Goals as goal
@@ -17,4 +16,4 @@ judge_store-requires c = sheet_holds _ c.in_ok-judge_sheet.ensures
 pub returns : goal.returns
 returns c =
     let a = c.args in
-    judge_append (sheet_checks a.sheet.now) (store_checks a.sheet.now a.store.now (mode_of a.mode)) c.in_ok-judge_sheet.ensures c.judge_store.result c.judge_store.ensures
+    judge_append (sheet_checks a.sheet.now) (store_checks a.sheet.now a.store.now a.mode) c.in_ok-judge_sheet.ensures c.judge_store.result c.judge_store.ensures

@@ -31,3 +31,48 @@ unfolding all_hold tells
 returns-in_default-clause-told c =
     let wrong = is_false _ (λ right. true≢false (sym (c.in_default.ensures.right.1 right))) in
     rw (and_false _ _ (rw c.of-parts.ensures.fields at wrong)) (refl, ap refused c.into.ensures)
+
+pub returns-then-parts-reader-clause-told : goal.returns-then-parts-reader-clause-told
+unfolding all_hold tells
+returns-then-parts-reader-clause-told c =
+    let unknown = le-ltb c.args.reader _ c.if-parts-reader.true in
+    rw (rw c.of-parts.ensures.levels at unknown) (refl, ap refused c.into-then-parts-reader.ensures)
+
+pub invariant_of-hand_out : goal.invariant_of-hand_out
+invariant_of-hand_out c = rw c.of-parts.ensures.levels (record { order = c.requires.loaded.levels })
+
+pub invariant_of-hand_out-2 : goal.invariant_of-hand_out-2
+invariant_of-hand_out-2 c =
+    rw (c.of-parts.ensures.levels, c.in-Some.ensures.same.1, c.of-parts.ensures.fields) (record { asks = asks_as c.requires (rw c.of-parts.ensures.levels at c.if-parts-reader.false) })
+
+pub returns-then-room-length-clause-told : goal.returns-then-room-length-clause-told
+unfolding all_hold tells
+returns-then-room-length-clause-told c =
+    let a = c.args in
+    let asked = asked_as a.sheet.now a.request.now a.reader c.of-parts.ensures.levels c.of-parts.ensures.fields c.if-parts-reader.false (c.in-Some.ensures.right.0 refl) in
+    let long = rw c.in-Some.ensures.same.0 at c.length.ensures in
+    let short = lt-leb (answer_length a.request.now) a.room (omega (arith, c.if-room-length.true, long)) in
+    rw (asked, short) (refl, ap refused c.into-then-room-length.ensures)
+
+pub returns-in-Some-first_refusing-clause-told : goal.returns-in-Some-first_refusing-clause-told
+unfolding all_hold tells
+returns-in-Some-first_refusing-clause-told c =
+    let a = c.args in
+    let asked = asked_as a.sheet.now a.request.now a.reader c.of-parts.ensures.levels c.of-parts.ensures.fields c.if-parts-reader.false (c.in-Some.ensures.right.0 refl) in
+    let long = rw c.in-Some.ensures.same.0 at c.length.ensures in
+    let room = le-leb (answer_length a.request.now) a.room (omega (arith, c.if-room-length.false, long)) in
+    let (first_is, before) = rw (c.of-parts.ensures.levels, c.in-Some.ensures.same.0) at c.in-Some-first_refusing.ensures in
+    let position = refused_position a.sheet.now a.store.now a.reader a.request.now in
+    let some = lt-leb (asked_count a.request.now) position (omega (arith, first_is, before)) in
+    rw (asked, room, some) (refl, ap refused c.at.ensures ∙ ap (refusal numbers.partial_asked) (sym first_is))
+
+pub returns-in-None-clause-told : goal.returns-in-None-clause-told
+unfolding all_hold
+returns-in-None-clause-told c =
+    let a = c.args in
+    let asked = asked_as a.sheet.now a.request.now a.reader c.of-parts.ensures.levels c.of-parts.ensures.fields c.if-parts-reader.false (c.in-Some.ensures.right.0 refl) in
+    let long = rw c.in-Some.ensures.same.0 at c.length.ensures in
+    let room = le-leb (answer_length a.request.now) a.room (omega (arith, c.if-room-length.false, long)) in
+    let none_is = rw (c.of-parts.ensures.levels, c.in-Some.ensures.same.0) at c.in-None.ensures in
+    let none = le-leb (asked_count a.request.now) (refused_position a.sheet.now a.store.now a.reader a.request.now) (omega (arith, none_is)) in
+    rw (asked, room, none) refl

@@ -72,11 +72,11 @@ pub returns-in_err-judge_both : goal.returns-in_err-judge_both
 returns-in_err-judge_both c =
     let a = c.args in
     let p = err_from_is_err_and c.from_residual.result c.from_residual.ensures.1 in
-    rw (p.1, p.2) (refuses_both a.sheet.now a.store.now a.mode a.fuel a.room c.if-mode-fuel.false _ c.in_err-judge_both.ensures)
+    rw (p.1, p.2) (refuses_both a.sheet.now a.store.now a.mode a.fuel a.room c.if-mode-fuel.false _ (rw c.from.ensures at c.in_err-judge_both.ensures))
 
 pub length-requires : goal.length-requires
 length-requires c =
-    let taken = both_hold _ _ _ c.in_ok-judge_both.ensures in
+    let taken = both_hold _ _ _ (rw c.from.ensures at c.in_ok-judge_both.ensures) in
     omega (arith, ap (λ (l : List ℕ). length l / 8) c.of.ensures.fields, few-fields _ taken.loaded)
 
 pub returns-then-room-length : goal.returns-then-room-length
@@ -84,7 +84,7 @@ returns-then-room-length c =
     let a = c.args in
     let length_is = c.length.ensures ∙ ap (λ (l : List ℕ). store_length (length l / 8)) c.of.ensures.fields in
     let short = lt-leb (store_length (field_count a.sheet.now)) a.room (omega (arith, c.if-room-length.true, length_is)) in
-    past_both a.sheet.now a.store.now a.mode a.fuel a.room c.if-mode-fuel.false c.in_ok-judge_both.ensures (Err _)
+    past_both a.sheet.now a.store.now a.mode a.fuel a.room c.if-mode-fuel.false (rw c.from.ensures at c.in_ok-judge_both.ensures) (Err _)
     (judge_fails (room_check a.sheet.now a.store.now a.mode a.fuel a.room) [] short _ (ap refused c.into-then-room-length.ensures))
 
 pub returns : goal.returns
@@ -93,4 +93,4 @@ returns c =
     let a = c.args in
     let length_is = c.length.ensures ∙ ap (λ (l : List ℕ). store_length (length l / 8)) c.of.ensures.fields in
     let enough = le-leb (store_length (field_count a.sheet.now)) a.room (omega (arith, c.if-room-length.false, length_is)) in
-    past_both a.sheet.now a.store.now a.mode a.fuel a.room c.if-mode-fuel.false c.in_ok-judge_both.ensures (Ok tt) (and_of_lem enough refl)
+    past_both a.sheet.now a.store.now a.mode a.fuel a.room c.if-mode-fuel.false (rw c.from.ensures at c.in_ok-judge_both.ensures) (Ok tt) (and_of_lem enough refl)

@@ -72,13 +72,7 @@ deliver-requires c =
     let count_is = ap (λ (l : List ℕ). length l / 8) c.of-parts.ensures.fields in
     rw count_is (few-fields _ c.requires.taken.loaded, c.requires.room-is, marks-few done)
 
-<<<<<<< HEAD
-pub overflow_sub-fuel : goal.overflow_sub-fuel
-overflow_sub-fuel c =
-    let done = done_so _ _ _ _ c.of-parts.ensures.levels c.of-parts.ensures.constants c.of-parts.ensures.nodes c.fetch.ensures.is c.first_task-task.ensures c.run-word.ensures in
-=======
 pub overflow_sub-result : goal.overflow_sub-result
 overflow_sub-result c =
-    let done = done_so _ _ _ _ c.levels-rows.ensures c.constants.ensures c.nodes-nodes.ensures c.fetch.ensures.is c.first_task-task.ensures c.run-word.ensures in
->>>>>>> 58d50303726ad68ca5a0e6f4aece452b4dc9724d
+    let done = done_so _ _ _ _ c.of-parts.ensures.levels c.of-parts.ensures.constants c.of-parts.ensures.nodes c.fetch.ensures.is c.first_task-task.ensures c.run-word.ensures in
     omega (arith, c.left_in.ensures, left-done done c.if-word-ge-STOP.false)
