@@ -78,8 +78,8 @@ fn put_line(text: &mut Text, fields: &[u8], store: &[u8], i: usize)
     text.push(b'\n');
 }
 
-/// Puts all fields' lines.
-pub fn put_lines(text: &mut Text, fields: &[u8], store: &[u8])
+// All fields' lines. Names and store stand apart: of slices in a struct a proof is not told that their items are bytes, which bounds a line.
+pub(crate) fn put_lines(text: &mut Text, fields: &[u8], store: &[u8])
     requires entries { Entries fields.now store.now }
     requires room { HasRoom text.old (field_lines fields.now store.now) }
     ensures { text.new ≡ text.old ++ field_lines fields.now store.now }
