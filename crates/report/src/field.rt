@@ -21,6 +21,7 @@ fn put_unless_zero(text: &mut Text, byte: u8)
 }
 
 // Field i's name.
+#[tactic(auto, using(crate::proofs::Each::none_put), unfolding(crate::specs::Text::name_of))]
 fn put_name(text: &mut Text, fields: &[u8], i: usize)
     requires name { NameIn fields.now i }
     requires room { HasRoom text.old (name_of fields.now i) }
@@ -78,8 +79,9 @@ fn put_line(text: &mut Text, fields: &[u8], store: &[u8], i: usize)
     text.push(b'\n');
 }
 
-/// Puts all fields' lines.
-pub fn put_lines(text: &mut Text, fields: &[u8], store: &[u8])
+// All fields' lines. Names and store stand apart: of slices in a struct a proof is not told that their items are bytes, which bounds a line.
+#[tactic(auto, using(crate::proofs::Each::none_put, crate::proofs::Each::one_more, crate::proofs::Each::next_room))]
+pub(crate) fn put_lines(text: &mut Text, fields: &[u8], store: &[u8])
     requires entries { Entries fields.now store.now }
     requires room { HasRoom text.old (field_lines fields.now store.now) }
     ensures { text.new ≡ text.old ++ field_lines fields.now store.now }

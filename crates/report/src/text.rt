@@ -44,7 +44,7 @@ impl Text {
         &self.bytes[..self.len]
     }
 
-    pub fn push(&mut self, byte: u8)
+    pub(crate) fn push(&mut self, byte: u8)
         requires { length self.old < longest }
         ensures { self.new ≡ self.old ++ byte ∷ [] }
     {
@@ -52,7 +52,7 @@ impl Text {
         self.len += 1;
     }
 
-    pub fn extend_from_slice(&mut self, text: &[u8])
+    pub(crate) fn extend_from_slice(&mut self, text: &[u8])
         requires { HasRoom self.old text.now }
         ensures { self.new ≡ self.old ++ text.now }
     {
@@ -61,9 +61,8 @@ impl Text {
         self.len = end;
     }
 
-    /// Puts a number's digits: those before the last, then the last. No `write!`, which may fail as far as its contract says, where this cannot.
-    #[tactic(auto, using(crate::proofs::Digits::decimal_one, crate::proofs::Digits::decimal_more))]
-    pub fn put_decimal(&mut self, n: u32)
+    // Puts a number's digits: those before the last, then the last. No `write!`, which may fail as far as its contract says, where this cannot.
+    pub(crate) fn put_decimal(&mut self, n: u32)
         requires { HasRoom self.old (decimal n) }
         ensures { self.new ≡ self.old ++ decimal n }
     {
@@ -73,9 +72,9 @@ impl Text {
         self.push(b'0' + (n % 10) as u8);
     }
 
-    /// Puts a number as a part of a line, after a blank.
+    // Puts a number as a part of a line, after a blank.
     #[tactic(auto, unfolding(crate::specs::Text::part))]
-    pub fn put_part(&mut self, n: u32)
+    pub(crate) fn put_part(&mut self, n: u32)
         requires { HasRoom self.old (part n) }
         ensures { self.new ≡ self.old ++ part n }
     {
@@ -83,9 +82,9 @@ impl Text {
         self.put_decimal(n);
     }
 
-    /// Puts a value, with a minus sign below 0.
+    // Puts a value, with a minus sign below 0.
     #[tactic(auto, unfolding(crate::specs::Text::signed))]
-    pub fn put_signed(&mut self, value: Value)
+    pub(crate) fn put_signed(&mut self, value: Value)
         requires { HasRoom self.old (signed value.n) }
         ensures { self.new ≡ self.old ++ signed value.n }
     {
