@@ -96,8 +96,10 @@ impl Value {
         requires { at + 4 ≤ length bytes.now }
         ensures { result ≡ value_at bytes.now at }
     {
-        let n = i32::from_le_bytes([bytes[at], bytes[at + 1], bytes[at + 2], bytes[at + 3]]);
-        Value { n }
+        let bytes = <[u8; 4]>::try_from(&bytes[at..at + 4]).unwrap();
+        Value {
+            n: i32::from_le_bytes(bytes),
+        }
     }
 
     /// Its four bytes, lowest first.
