@@ -1,7 +1,7 @@
--- What other crates may cite: laws of tests over the numbers below n, and of lists, of a `match` on a number, of a count and entries written, and of checks
--- in order.
+-- What other crates may cite: that no refusal has the number of success, laws of tests over the numbers below n, and of lists, of a count and entries
+-- written, and of checks in order.
+pub mod Numbering
 pub mod Tests
 pub mod Lists
-pub mod Matching
 pub mod Filling
 pub mod Checks

@@ -9,9 +9,9 @@ pub mod text;
 ghost use Rattle.std.specs.Prelude.{◌≡◌};
 ghost use Rattle.report.specs.Report.{report_of};
 
-use basis::answer::{refusal, unpack};
-use basis::numbers::SHEET_LENGTH;
+use basis::numbers::Number;
 use file::RunFile;
+use sections::Parts;
 use store::LONGEST;
 use text::Text;
 
@@ -20,15 +20,11 @@ pub fn report(file: &[u8]) -> Text
     ensures { result ≡ report_of file.now }
 {
     let Some(run) = RunFile::parse(file) else {
-        return outcome::refused_text(refusal(SHEET_LENGTH, 0));
+        return outcome::refused_text(Number::SheetLength.into());
     };
     let mut out = [0; LONGEST];
-    let word = beltuqash::beltuqash_run(
-        run.sheet,
-        run.store,
-        u32::from(run.mode),
-        run.fuel,
-        &mut out,
-    );
-    outcome::answer_text(unpack(word), sections::Parts::of(run.sheet).fields, &out)
+    match beltuqash::run(run.sheet, run.store, u32::from(run.mode), run.fuel, &mut out) {
+        Ok(units) => outcome::done_text(units, Parts::of(run.sheet).fields, &out),
+        Err(refusal) => outcome::refused_text(refusal),
+    }
 }
