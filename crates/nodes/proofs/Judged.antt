@@ -37,9 +37,9 @@ module _ (s : List ℕ) (fields constants : ℕ) where
     told_unknown e = simp e
 
     module _ (kn : known (kind_at s n) (op_at s n) ≡ true) where
-      pub told-operator : operator_zero (kind_at s n) (op_at s n) ≡ false → Err (Node Unused n) ≡ node_verdict s fields constants n
+      pub told_operator : operator_zero (kind_at s n) (op_at s n) ≡ false → Err (Node Unused n) ≡ node_verdict s fields constants n
       unfolding node_verdict ◌then◌
-      told-operator e = simp (kn, e)
+      told_operator e = simp (kn, e)
 
       module _ (op : operator_zero (kind_at s n) (op_at s n) ≡ true) where
         pub told_unused : slots_right s fields constants n Unused ≡ false → Err (Node Unused n) ≡ node_verdict s fields constants n
@@ -52,9 +52,9 @@ module _ (s : List ℕ) (fields constants : ℕ) where
           told_range e = simp (kn, op, unused, e)
 
           module _ (range : slots_right s fields constants n Range ≡ true) where
-            pub told-sort : slots_right s fields constants n Sort ≡ false → Err (Node Sort n) ≡ node_verdict s fields constants n
+            pub told_sort : slots_right s fields constants n Sort ≡ false → Err (Node Sort n) ≡ node_verdict s fields constants n
             unfolding node_verdict ◌then◌
-            told-sort e = simp (kn, op, unused, range, e)
+            told_sort e = simp (kn, op, unused, range, e)
 
             pub told_none : slots_right s fields constants n Sort ≡ true → Ok tt ≡ node_verdict s fields constants n
             unfolding node_verdict ◌then◌

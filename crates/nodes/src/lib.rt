@@ -12,8 +12,8 @@ use basis::word;
 use sections::verdict::{Fault, SheetError};
 use uses::count_use;
 
-// What a slot of a node holds.
-#[derive(Clone, Copy)]
+/// What a slot of a node holds.
+#[derive(Clone, Copy, Debug, PartialEq, Eq)]
 pub enum Held {
     Nothing,
     Constant,
@@ -47,6 +47,8 @@ pub fn slot(nodes: &[u8], n: usize, k: usize) -> usize
 }
 
 // What the slots c, b, a of a kind hold, an octal digit each: 1 a constant, 2 a field, 3 an expression, 4 a command.
+// No table of `Held`: with one, load took twice as long.
+#[tactic(auto, using(crate::proofs::Slots::row_past), unfolding(crate::specs::Inside::Rows::row_of))]
 fn row_of(kind: u8) -> u32
     ensures { result ≡ row_of kind }
 {
@@ -65,7 +67,7 @@ fn row_of(kind: u8) -> u32
     }
 }
 
-// What slot k of a kind holds.
+/// What slot k of a kind holds.
 pub fn held_in(kind: u8, k: usize) -> Held
     requires { k < 3 }
     ensures { result ≡ held_in kind k }
@@ -83,15 +85,10 @@ pub fn held_in(kind: u8, k: usize) -> Held
 pub fn is_child(held: Held) -> bool
     ensures { result ≡ is_child held }
 {
-    match held {
-        Held::Nothing => false,
-        Held::Constant => false,
-        Held::Field => false,
-        Held::Expression => true,
-        Held::Command => true,
-    }
+    matches!(held, Held::Expression | Held::Command)
 }
 
+#[tactic(auto, unfolding(crate::specs::Nodes::known))]
 fn known_kind(kind: u8, op: u8) -> bool
     ensures { result ≡ known kind op }
 {
@@ -99,6 +96,7 @@ fn known_kind(kind: u8, op: u8) -> bool
 }
 
 // Whether the operator byte is 0 in a kind without one.
+#[tactic(auto, unfolding(crate::specs::Nodes::operator_zero))]
 fn operator_zero(kind: u8, op: u8) -> bool
     ensures { result ≡ operator_zero kind op }
 {
@@ -111,23 +109,28 @@ fn zero_in(held: Held, w: usize) -> bool
 {
     match held {
         Held::Nothing => w == 0,
-        Held::Constant => true,
-        Held::Field => true,
-        Held::Expression => true,
-        Held::Command => true,
+        _ => true,
     }
 }
 
-// Whether the number in a slot of node n is in range: an index below its count, a child lower than n.
-fn range_right(fields: usize, constants: usize, n: usize, held: Held, w: usize) -> bool
-    ensures { result ≡ range_right fields constants n held w }
-{
-    match held {
-        Held::Nothing => true,
-        Held::Constant => w < constants,
-        Held::Field => w < fields,
-        Held::Expression => w < n,
-        Held::Command => w < n,
+/// How many constants and fields a sheet has: what the indices of its nodes are below.
+#[derive(Clone, Copy)]
+pub struct Limits {
+    pub constants: usize,
+    pub fields: usize,
+}
+
+impl Limits {
+    // Whether the number in a slot of node n is in range: an index below its count, a child lower than n.
+    fn range_right(self, n: usize, held: Held, w: usize) -> bool
+        ensures { result ≡ range_right self.fields self.constants n held w }
+    {
+        match held {
+            Held::Nothing => true,
+            Held::Constant => w < self.constants,
+            Held::Field => w < self.fields,
+            Held::Expression | Held::Command => w < n,
+        }
     }
 }
 
@@ -136,11 +139,9 @@ fn of_sort(held: Held, kind: u8) -> bool
     ensures { result ≡ of_sort held kind }
 {
     match held {
-        Held::Nothing => true,
-        Held::Constant => true,
-        Held::Field => true,
         Held::Expression => kind <= 4,
         Held::Command => 4 < kind,
+        _ => true,
     }
 }
 
@@ -156,63 +157,52 @@ fn sort_right(nodes: &[u8], n: usize, held: Held, w: usize) -> bool
 }
 
 // Whether a slot of node n is free of a fault.
-fn slot_right(
-    nodes: &[u8],
-    fields: usize,
-    constants: usize,
-    n: usize,
-    fault: Fault,
-    held: Held,
-    w: usize,
-) -> bool
+#[tactic(auto, unfolding(crate::specs::Nodes::slot_right))]
+fn slot_right(nodes: &[u8], limits: Limits, n: usize, fault: Fault, held: Held, w: usize) -> bool
     requires { In nodes.now n }
-    ensures { result ≡ slot_right nodes.now fields constants n fault held w }
+    ensures { result ≡ slot_right nodes.now limits.fields limits.constants n fault held w }
 {
     match fault {
         Fault::Unknown => true,
         Fault::Unused => zero_in(held, w),
-        Fault::Range => range_right(fields, constants, n, held, w),
+        Fault::Range => limits.range_right(n, held, w),
         Fault::Sort => sort_right(nodes, n, held, w),
     }
 }
 
 // Whether all slots of node n are.
-fn slots_right(nodes: &[u8], fields: usize, constants: usize, n: usize, fault: Fault) -> bool
+fn slots_right(nodes: &[u8], limits: Limits, n: usize, fault: Fault) -> bool
     requires { In nodes.now n }
-    ensures { result ≡ slots_right nodes.now fields constants n fault }
+    ensures { result ≡ slots_right nodes.now limits.fields limits.constants n fault }
 {
     let kind = kind_of(nodes, n);
-    let mut k = 0;
-    while k < 3 {
+    for k in 0..3 {
         let w = slot(nodes, n, k);
-        if !slot_right(nodes, fields, constants, n, fault, held_in(kind, k), w) {
+        if !slot_right(nodes, limits, n, fault, held_in(kind, k), w) {
             return false;
         }
-        k += 1;
     }
     true
 }
 
 // Judges node n.
-fn judge_node(nodes: &[u8], fields: usize, constants: usize, n: usize) -> Result<(), SheetError>
+#[tactic(auto, using(crate::proofs::Judged::told_unknown, crate::proofs::Judged::told_operator, crate::proofs::Judged::told_unused, crate::proofs::Judged::told_range, crate::proofs::Judged::told_sort, crate::proofs::Judged::told_none))]
+fn judge_node(nodes: &[u8], limits: Limits, n: usize) -> Result<(), SheetError>
     requires { In nodes.now n }
-    ensures { result ≡ node_verdict nodes.now fields constants n }
+    ensures { result ≡ node_verdict nodes.now limits.fields limits.constants n }
 {
     let kind = kind_of(nodes, n);
     let op = op_of(nodes, n);
     if !known_kind(kind, op) {
         return Err(SheetError::Node(Fault::Unknown, n));
     }
-    if !operator_zero(kind, op) {
+    if !(operator_zero(kind, op) && slots_right(nodes, limits, n, Fault::Unused)) {
         return Err(SheetError::Node(Fault::Unused, n));
     }
-    if !slots_right(nodes, fields, constants, n, Fault::Unused) {
-        return Err(SheetError::Node(Fault::Unused, n));
-    }
-    if !slots_right(nodes, fields, constants, n, Fault::Range) {
+    if !slots_right(nodes, limits, n, Fault::Range) {
         return Err(SheetError::Node(Fault::Range, n));
     }
-    if !slots_right(nodes, fields, constants, n, Fault::Sort) {
+    if !slots_right(nodes, limits, n, Fault::Sort) {
         return Err(SheetError::Node(Fault::Sort, n));
     }
     Ok(())
@@ -231,9 +221,10 @@ fn take_child(nodes: &[u8], n: usize, w: usize, held: Held, used: &mut [u8]) -> 
 }
 
 // Whether node n is free of every fault, by its kind; its children are counted.
-fn take_node(nodes: &[u8], fields: usize, constants: usize, n: usize, used: &mut [u8]) -> bool
+// An arm for each kind: by the table, slot after slot, load took 2.9 times as long.
+fn take_node(nodes: &[u8], limits: Limits, n: usize, used: &mut [u8]) -> bool
     requires { In nodes.now n × (n ≤ length used.old) }
-    ensures { TakesNode nodes.now fields constants n used.old used.new result }
+    ensures { TakesNode nodes.now limits.fields limits.constants n used.old used.new result }
 {
     let kind = kind_of(nodes, n);
     let op = op_of(nodes, n);
@@ -241,8 +232,8 @@ fn take_node(nodes: &[u8], fields: usize, constants: usize, n: usize, used: &mut
     let b = slot(nodes, n, 1);
     let c = slot(nodes, n, 2);
     match kind {
-        0 => (op == 0) & (a < constants) & (b == 0) & (c == 0),
-        1 => (op == 0) & (a < fields) & (b == 0) & (c == 0),
+        0 => (op == 0) & (a < limits.constants) & (b == 0) & (c == 0),
+        1 => (op == 0) & (a < limits.fields) & (b == 0) & (c == 0),
         2 => (op <= 9)
             & take_child(nodes, n, a, Held::Expression, used)
             & take_child(nodes, n, b, Held::Expression, used)
@@ -250,7 +241,10 @@ fn take_node(nodes: &[u8], fields: usize, constants: usize, n: usize, used: &mut
         3 => (op == 0) & take_child(nodes, n, a, Held::Expression, used) & (b == 0) & (c == 0),
         4 => (op == 0) & take_child(nodes, n, a, Held::Expression, used) & (b == 0) & (c == 0),
         5 => (op == 0) & (a == 0) & (b == 0) & (c == 0),
-        6 => (op == 0) & (a < fields) & take_child(nodes, n, b, Held::Expression, used) & (c == 0),
+        6 => (op == 0)
+            & (a < limits.fields)
+            & take_child(nodes, n, b, Held::Expression, used)
+            & (c == 0),
         7 => (op == 0)
             & take_child(nodes, n, a, Held::Command, used)
             & take_child(nodes, n, b, Held::Command, used)
@@ -269,19 +263,14 @@ fn take_node(nodes: &[u8], fields: usize, constants: usize, n: usize, used: &mut
 
 // Judges all nodes, the lowest first, and counts how often each is a child, from an array of zeros.
 // Which fault it is, is asked only of a node that has one.
-pub fn judge_nodes(
-    nodes: &[u8],
-    fields: usize,
-    constants: usize,
-    used: &mut [u8],
-) -> Result<(), SheetError>
+pub fn judge_nodes(nodes: &[u8], limits: Limits, used: &mut [u8]) -> Result<(), SheetError>
     requires { (node_count nodes.now ≤ length used.old) × ((c : ℕ) → get_or used.old c 0 ≡ 0) }
-    ensures { Judges nodes.now fields constants used.new result }
+    ensures { Judges nodes.now limits.fields limits.constants used.new result }
 {
     let count = nodes.len() / 8;
     for n in 0..count {
-        if !take_node(nodes, fields, constants, n, used) {
-            return judge_node(nodes, fields, constants, n);
+        if !take_node(nodes, limits, n, used) {
+            return judge_node(nodes, limits, n);
         }
     }
     Ok(())

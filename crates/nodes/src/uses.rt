@@ -4,15 +4,12 @@ ghost use Rattle.basis.specs.Tests.{all};
 ghost use Rattle.nodes.specs.Inside.Counting.{counted};
 
 // Counts node w once more.
+#[tactic(auto, unfolding(crate::specs::Inside::Counting::counted))]
 pub fn count_use(used: &mut [u8], w: usize)
     requires { w < length used.old }
     ensures { used.new ≡ counted w used.old }
 {
-    if used[w] == 0 {
-        used[w] = 1;
-    } else {
-        used[w] = 2;
-    }
+    used[w] = if used[w] == 0 { 1 } else { 2 };
 }
 
 // Whether the first n counts are all 1. It goes over all of them, so that many are compared at a time.
@@ -21,10 +18,8 @@ pub fn all_once(used: &[u8], n: usize) -> bool
     ensures { result ≡ all n (λ c. eqb (get_or used.now c 0) 1) }
 {
     let mut once = true;
-    let mut c = 0;
-    while c < n {
-        once = once & (used[c] == 1);
-        c += 1;
+    for uses in &used[..n] {
+        once &= *uses == 1;
     }
     once
 }

@@ -38,6 +38,7 @@ const NODES: Section = Section {
 };
 
 /// Judges all sections in byte order.
+#[tactic(auto, using(crate::proofs::Verdicts::then_first, crate::proofs::Verdicts::then_next), unfolding(crate::specs::Sections::sections_verdict))]
 pub fn judge_sections(sheet: &[u8]) -> Result<(), SheetError>
     ensures { result ≡ sections_verdict sheet.now }
 {

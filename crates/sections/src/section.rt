@@ -31,6 +31,7 @@ fn section_end(rest: &[u8], size: u8) -> usize
 }
 
 // The same, or the rest's own end where the section is cut.
+#[tactic(auto, using(crate::proofs::Cuts::end_least))]
 fn part_end(rest: &[u8], size: u8) -> usize
     ensures { result ≡ min (section_end size rest.now) (length rest.now) }
 {
@@ -50,6 +51,7 @@ pub fn entries(rest: &[u8], size: u8) -> &[u8]
 }
 
 /// Judges the section at the front of the rest: its count, the count's limits, its entries.
+#[tactic(auto, using(crate::proofs::Cuts::section_short, crate::proofs::Cuts::section_few, crate::proofs::Cuts::section_many, crate::proofs::Cuts::section_cut, crate::proofs::Cuts::section_whole))]
 pub fn judge(rest: &[u8], section: Section) -> Result<(), SheetError>
     ensures { result ≡ section_verdict section.size section.least section.most rest.now }
 {
@@ -67,6 +69,7 @@ pub fn judge(rest: &[u8], section: Section) -> Result<(), SheetError>
 }
 
 /// The offset after the section at an offset.
+#[tactic(auto, unfolding(crate::specs::Sections::offset_after))]
 pub fn offset_after(sheet: &[u8], at: usize, size: u8) -> usize
     ensures { result ≡ offset_after sheet.now at size }
 {

@@ -7,7 +7,7 @@ ghost use Rattle.std.specs.Prelude.{◌≡◌};
 ghost use Rattle.sheet.specs.Load.{load_of};
 
 use levels::Levels;
-use nodes::uses;
+use nodes::{Limits, uses};
 use sections::Parts;
 use sections::verdict::SheetError;
 
@@ -24,12 +24,11 @@ pub fn load(sheet: &[u8]) -> Result<(), SheetError>
         return Err(SheetError::Name);
     }
     let mut used = [0u8; 1024];
-    nodes::judge_nodes(
-        parts.nodes,
-        parts.fields.len() / 8,
-        parts.constants.len() / 4,
-        &mut used,
-    )?;
+    let limits = Limits {
+        constants: parts.constants.len() / 4,
+        fields: parts.fields.len() / 8,
+    };
+    nodes::judge_nodes(parts.nodes, limits, &mut used)?;
     let last = parts.nodes.len() / 8 - 1;
     if !uses::all_once(&used, last) {
         return Err(SheetError::Uses);

@@ -7,4 +7,4 @@ use Rattle.std.specs.Prelude.{Ok}
 use Rattle.nodes.proofs.judge_nodes.Given as goal
 
 abbrev pub invariant-loop-n : goal.invariant-loop-n
-invariant-loop-n l = (l.count ≡ node_count l.nodes) × (length l.used ≡ length l.initial.used) × (verdict_below l.nodes l.fields l.constants l.n ≡ Ok tt) × Counts l.nodes l.n l.used
+invariant-loop-n l = (l.count ≡ node_count l.nodes) × (length l.used ≡ length l.initial.used) × (verdict_below l.nodes l.limits.fields l.limits.constants l.n ≡ Ok tt) × Counts l.nodes l.n l.used
