@@ -1,5 +1,5 @@
 -- A file that is cut is refused with number 1; what is run otherwise is what the file asks for, so what comes back is the file's outcome.
-use Rattle.std.proofs.Common.{arith, rules, refl, ◌≤◌, ◌≡◌, length, ap, ◌∙◌}
+use Rattle.std.proofs.Common.{arith, rules, refl, ◌≤◌, length, ap, ◌∙◌}
 use Rattle.basis.specs.Answer.{success, refused}
 use Rattle.sections.specs.Sections.{fields_of}
 use Rattle.beltuqash.specs.Calls.{Comes}
