@@ -1,4 +1,6 @@
--- What other crates may cite: laws of tests over the numbers below n, of a `match` on a number, of a count and entries written, and of checks in order.
+-- What other crates may cite: that no refusal has the number of success, laws of tests over the numbers below n, of a `match` on a number, of a count and
+-- entries written, and of checks in order.
+pub mod Numbering
 pub mod Tests
 pub mod Matching
 pub mod Filling

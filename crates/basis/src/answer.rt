@@ -2,6 +2,8 @@
 ghost use Rattle.std.specs.Prelude.{◌≡◌};
 
 use crate::numbers::Number;
+use std::error::Error;
+use std::fmt;
 
 /// What a call that refuses tells. Units are spent by a run that stops alone.
 #[derive(Clone, Copy, Debug, PartialEq, Eq)]
@@ -31,3 +33,12 @@ impl From<Number> for Refusal {
         Refusal::at(number, 0)
     }
 }
+
+/// Number, place and units.
+impl fmt::Display for Refusal {
+    fn fmt<W: fmt::Write>(&self, f: &mut fmt::Formatter<W>) -> fmt::Result {
+        write!(f, "{} {} {}", u8::from(self.number), self.place, self.units)
+    }
+}
+
+impl Error for Refusal {}

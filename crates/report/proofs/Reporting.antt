@@ -5,12 +5,11 @@ use mathlib.Core.Bool.{true, false}
 use mathlib.Core.List.{List}
 use lib.ListN.{length}
 use Rattle.basis.specs.Numbers as numbers
-use Rattle.basis.specs.Answer.{refusal, word_of, answer_in}
+use Rattle.basis.specs.Answer.{refusal}
 use Rattle.basis.proofs.Checks.{past_checks}
 use Rattle.sections.specs.Sections.{fields_of}
 use Rattle.beltuqash.specs.Calls.{run_checks, run_from, run}
 use Rattle.beltuqash.proofs.Checking.{run_numbered, run_holds, fields-long}
-use Rattle.beltuqash.proofs.Unique.{word_tells, run-within, within-fits}
 use Rattle.report.specs.File.{mode_in, fuel_in, sheet_in, store_in, is_cut}
 use Rattle.report.specs.Text.{refused_text}
 use Rattle.report.specs.Report.{lent, outcome_of, run_text, report_of}
@@ -23,11 +22,6 @@ module _ (file : List ℕ) where
   pub report_run : is_cut file ≡ false → report_of file ≡ run_text file
   unfolding report_of
   report_run e = rw e
-
-  -- the word tells the answer
-  pub answer-told : answer_in (word_of (outcome_of file).answer) ≡ (outcome_of file).answer
-  unfolding outcome_of
-  answer-told = word_tells _ (within-fits (run-within (sheet_in file) (store_in file) (mode_in file) (fuel_in file) lent))
 
   -- number 0 means that the sheet passed
   pub done-fields : (outcome_of file).answer.number ≡ numbers.done → length (fields_of (sheet_in file)) ≤ 512

@@ -11,8 +11,7 @@ ghost use Rattle.std.specs.Prelude.{◌≤◌, length};
 ghost use Rattle.report.specs.Inside.Given.{Complete};
 ghost use Rattle.report.specs.Report.{run_text, report_of, longest, Begins};
 
-use basis::answer::{refusal, unpack};
-use basis::numbers::SHEET_LENGTH;
+use basis::numbers::Number;
 use store::LONGEST;
 
 // What the runner prints for a file, and how long it is.
@@ -21,7 +20,7 @@ pub fn report(file: &[u8], text: &mut [u8]) -> usize
     ensures { Begins text.new (report_of file.now) result }
 {
     if file::is_cut(file) {
-        return outcome::print_refused(refusal(SHEET_LENGTH, 0), text);
+        return outcome::print_refused(Number::SheetLength.into(), text);
     }
     report_run(file, text)
 }
@@ -36,6 +35,6 @@ fn report_run(file: &[u8], text: &mut [u8]) -> usize
     let mode = file::mode(file) as u32;
     let fuel = file::fuel(file);
     let mut out = [0u8; LONGEST];
-    let word = beltuqash::beltuqash_run(sheet, store, mode, fuel, &mut out);
-    outcome::print(unpack(word), sections::fields(sheet), &out, text)
+    let ran = beltuqash::run(sheet, store, mode, fuel, &mut out);
+    outcome::print(ran, sections::fields(sheet), &out, text)
 }

@@ -1,14 +1,13 @@
 // What comes back from a run, as text: `done` and units with a line per field, or `refused`, number, place and units.
-ghost use Rattle.std.specs.Prelude.{◌≤◌, ◌≡◌, length};
-ghost use Rattle.basis.specs.Numbers.{done};
+ghost use Rattle.std.specs.Prelude.{◌≤◌, length, OnOk};
+ghost use Rattle.basis.specs.Answer.{answer_of, refused};
 ghost use Rattle.report.specs.Inside.Given.{Final};
 ghost use Rattle.report.specs.Report.{longest, Begins};
 ghost use Rattle.report.specs.Text.{done_text, refused_text, printed};
 
 use crate::field::put_lines;
 use crate::number::{put_byte, put_part, put_text};
-use basis::answer::Answer;
-use basis::numbers::DONE;
+use basis::answer::Refusal;
 
 // `done` and units, then a line per field.
 fn print_done(units: u32, fields: &[u8], store: &[u8], out: &mut [u8]) -> usize
@@ -22,24 +21,24 @@ fn print_done(units: u32, fields: &[u8], store: &[u8], out: &mut [u8]) -> usize
 }
 
 // `refused`, number, place and units.
-pub fn print_refused(answer: Answer, out: &mut [u8]) -> usize
+pub fn print_refused(refusal: Refusal, out: &mut [u8]) -> usize
     requires { longest ≤ length out.old }
-    ensures { Begins out.new (refused_text answer) result }
+    ensures { Begins out.new (refused_text (refused refusal)) result }
 {
     let refused = put_text(out, 0, b"refused");
-    let number = put_part(out, refused, answer.number as u32);
-    let place = put_part(out, number, answer.place as u32);
-    let units = put_part(out, place, answer.units);
+    let number = put_part(out, refused, u32::from(u8::from(refusal.number)));
+    let place = put_part(out, number, u32::from(refusal.place));
+    let units = put_part(out, place, refusal.units);
     put_byte(out, units, b'\n')
 }
 
-// The text of an answer. What a run that is done gave is at hand.
-pub fn print(answer: Answer, fields: &[u8], store: &[u8], out: &mut [u8]) -> usize
-    requires { (answer.number ≡ done → Final fields.now store.now) × (longest ≤ length out.old) }
-    ensures { Begins out.new (printed answer fields.now store.now) result }
+// The text of what comes back. What a run that is done gave is at hand.
+pub fn print(ran: Result<u32, Refusal>, fields: &[u8], store: &[u8], out: &mut [u8]) -> usize
+    requires { OnOk ran (Final fields.now store.now) × (longest ≤ length out.old) }
+    ensures { Begins out.new (printed (answer_of ran) fields.now store.now) result }
 {
-    if answer.number == DONE {
-        return print_done(answer.units, fields, store, out);
+    match ran {
+        Ok(units) => print_done(units, fields, store, out),
+        Err(refusal) => print_refused(refusal, out),
     }
-    print_refused(answer, out)
 }

@@ -2,9 +2,8 @@
 // length (2 bytes), the sheet. A line comes out for each: the name and what load answers, number, place and units.
 #![tactic(auto)]
 
-ghost use Rattle.std.specs.Prelude.{◌<◌, ◌≤◌, length, IfOk};
+ghost use Rattle.std.specs.Prelude.{◌<◌, ◌≤◌, length, IfOk, IfSome};
 
-use basis::answer::{Answer, unpack};
 use std::io;
 use std::io::{Read, Write};
 
@@ -29,36 +28,34 @@ fn read_full<R: Read>(input: &mut R, buffer: &mut [u8]) -> io::Result<usize>
     Ok(done)
 }
 
+// A trial, and the input after it.
+#[derive(Clone, Copy)]
+struct Trial<'a> {
+    name: &'a [u8],
+    sheet: &'a [u8],
+    rest: &'a [u8],
+}
+
 fn all_trials<W: Write>(output: &mut W, input: &[u8]) -> io::Result<()> {
-    let mut at: usize = 0;
-    while at < input.len() {
-        at = trial(output, input, at)?;
+    let mut rest = input;
+    while let Some(trial) = next_trial(rest) {
+        output.write_all(trial.name)?;
+        match beltuqash::load(trial.sheet) {
+            Ok(()) => writeln!(output, ": 0 0 0")?,
+            Err(refusal) => writeln!(output, ": {refusal}")?,
+        }
+        rest = trial.rest;
     }
     Ok(())
 }
 
-// The trial at an offset, and the offset after it. A trial that is cut ends the input.
-fn trial<W: Write>(output: &mut W, input: &[u8], at: usize) -> io::Result<usize>
-    requires { at < length input.now }
-    ensures { IfOk result (λ end. at < end) }
+// The trial at the front. One that is cut ends the input.
+fn next_trial(input: &[u8]) -> Option<Trial<'_>>
+    ensures { IfSome result (λ trial. length trial.rest.now < length input.now) }
 {
-    let name_at = at + 1;
-    let length_at = name_at + basis::wide(input[at]) as usize;
-    if input.len() < length_at + 2 {
-        return Ok(input.len());
-    }
-    let sheet_at = length_at + 2;
-    let end = sheet_at + basis::word(input, length_at) as usize;
-    if input.len() < end {
-        return Ok(input.len());
-    }
-    let answer = unpack(beltuqash::beltuqash_load(&input[sheet_at..end]));
-    output.write_all(&input[name_at..length_at])?;
-    print(output, answer)?;
-    Ok(end)
-}
-
-// Number, place and units.
-fn print<W: Write>(output: &mut W, a: Answer) -> io::Result<()> {
-    writeln!(output, ": {} {} {}", a.number, a.place, a.units)
+    let (name_length, rest) = input.split_first()?;
+    let (name, rest) = rest.split_at_checked(*name_length as usize)?;
+    let (sheet_length, rest) = rest.split_at_checked(2)?;
+    let (sheet, rest) = rest.split_at_checked(basis::word(sheet_length, 0) as usize)?;
+    Some(Trial { name, sheet, rest })
 }

@@ -1,6 +1,6 @@
--- Each trial ends past its beginning, so what is left of the input falls.
-use Rattle.std.proofs.Common.{length, ◌-◌}
+-- What is left of the input falls with each trial.
+use Rattle.std.proofs.Common.{length}
 use Rattle.trials.proofs.all_trials.Given as goal
 
-abbrev pub decreases-loop-at : goal.decreases-loop-at
-decreases-loop-at g l = length l.input - l.at
+abbrev pub decreases-loop-trial : goal.decreases-loop-trial
+decreases-loop-trial g l = length l.rest
