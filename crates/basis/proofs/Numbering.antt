@@ -1,5 +1,4 @@
 -- No refusal has the number of success.
-use Prim.Native.Nat.{ℕ}
 use native.Mathlib.Omega.{arith}
 use mathlib.Core.Path.{◌≡◌}
 use Rattle.basis.specs.Numbers.{done, number_of}

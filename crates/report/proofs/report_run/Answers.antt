@@ -38,7 +38,7 @@ print-requires c =
     let comes : Comes (outcome_of f) (answer_of c.run-ran.result) c.run-ran.new.out = rw (← ran) c.run-ran.ensures.yields in
     let fields_are = c.fields.ensures ∙ ap fields_of c.sheet-sheet.ensures in (
       where-done _ _ comes.0
-      (λ done.
+          (λ done.
           let few : length c.fields.result.now ≤ 512 = rw fields_are (done-fields _ done) in
           record { few = few; entries = omega (arith, c.run-ran.auto) }),
       c.requires.1,

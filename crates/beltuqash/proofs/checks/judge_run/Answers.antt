@@ -19,7 +19,7 @@ use Rattle.sheet.specs.Load.{field_count}
 use Rattle.store.specs.Marks.{mode_of}
 use Rattle.store.specs.Stores.{store_length}
 use Rattle.beltuqash.specs.Calls.{sheet_checks, store_checks, run_checks}
-use Rattle.beltuqash.proofs.Checking.{both_numbered, both_hold, few-fields}
+use Rattle.beltuqash.proofs.Checking.{both_hold, few-fields}
 use Rattle.beltuqash.proofs.checks.judge_run.Goals as goal
 
 neither : (a b : Bool) → (a || b) ≡ false → (a ≡ false) × (b ≡ false)

@@ -1,9 +1,6 @@
 -- Each return has the checks that lead to it.
-use Prim.Native.Nat.{◌/◌}
 use native.Mathlib.Omega.{arith}
 use mathlib.Core.Path.{refl, sym, ap, ◌∙◌}
-use mathlib.Core.List.{List}
-use lib.ListN.{length}
 use Rattle.basis.specs.Answer.{refused}
 use Rattle.basis.specs.Checks.{all_hold, tells}
 use Rattle.beltuqash.proofs.Checking.{few-fields, fits-long}
