@@ -88,9 +88,6 @@ module _ (checks : List Check) where
   pub all_hold_lem : Numbered checks → (tells checks).number ≡ numbers.done → all_hold checks ≡ true
   all_hold_lem numbered e = split (all_hold checks) (λ t. t) (λ f. absurd (tells_one (λ a. a.number ≡ numbers.done → ⊥) checks numbered f e))
 
-  pub some-fails : ((tells checks).number ≡ numbers.done → ⊥) → all_hold checks ≡ false
-  some-fails n = split (all_hold checks) (λ t. absurd (n (ap (λ (a : Answer). a.number) (tells-success checks t)))) (λ f. f)
-
   -- ── a call ────────────────────────────────────────────────────────────────────────────────
 
   module _ (out : List ℕ) (next : Outcome) where
