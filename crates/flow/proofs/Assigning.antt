@@ -17,10 +17,10 @@ use Rattle.rules.specs.Ends.{Why, gives, stops, End, done, stopped, at, and_then
 use Rattle.rules.specs.Rules.{Marking, put, eval, updated, exec}
 use Rattle.store.specs.Cells.{Cell, cell, Store}
 use Rattle.rules.proofs.Units.{assign_law}
-use Rattle.marks.specs.Inside.Parts.{constants_in, nodes_in}
-use Rattle.marks.specs.Inside.Words.{value_in, mark_in, cell_in, work_at, work_of, Word, Goes, Stops, run_in, context_in}
-use Rattle.marks.specs.Inside.Meanings.{Meaning, Stored}
-use Rattle.flow.specs.Inside.Tasks.{meaning_in, Ready, ExpIn, Evaluated, CmdIn, Assigned}
+use Rattle.marks.specs.Inside.Words.{value_in, mark_in, cell_in, work_at, work_of, Word, Goes, Stops}
+use Rattle.marks.specs.declared.Run.{Run}
+use Rattle.marks.specs.Inside.Meanings.{Meaning, meaning, Stored}
+use Rattle.flow.specs.Inside.Tasks.{Ready, ExpIn, Evaluated, CmdIn, Assigned}
 use Rattle.marks.proofs.Results.{goes_number, answer-gives, answer-stops}
 use Rattle.flow.proofs.Ends.{or_next, or_stopped}
 
@@ -66,9 +66,9 @@ module _ {Mark : Type 0} (of : ℕ → Mark) (work : List ℕ) (i word : ℕ) (i
   work_set = fun_ext work_at_set
 
 -- a word with a known mark leaves the work store ready
-ready-set : {parts : List (List ℕ)} {work : List ℕ} {run i : ℕ} (word : ℕ) → Ready parts work run → i < 64 → (meaning_in parts run).KnownMark (mark_in word)
-    → Ready parts (set work i word) run
-ready-set {parts} {work} {run} {i} word p inside known = record {
+ready-set : {run : Run} {work : List ℕ} {i : ℕ} (word : ℕ) → Ready run work → i < 64 → (meaning run).KnownMark (mark_in word)
+    → Ready run (set work i word)
+ready-set {run} {work} {i} word p inside known = record {
   askable = p.askable;
   fields = p.fields;
   few-fields = p.few-fields;
@@ -78,21 +78,21 @@ ready-set {parts} {work} {run} {i} word p inside known = record {
   words = λ j. at_field j (ℕ_discrete j i);
 }
   where
-    at_field : (j : ℕ) → Dec (j ≡ i) → (meaning_in parts run).KnownMark (mark_in (get_or (set work i word) j 0))
+    at_field : (j : ℕ) → Dec (j ≡ i) → (meaning run).KnownMark (mark_in (get_or (set work i word) j 0))
     at_field j (yes e) = rw (e, get_or-set_same work i word 0 (rw p.long inside)) known
     at_field j (no e) = rw (get_or-set_other work i j word 0 e) (p.words j)
 
 -- ── the assignment at a node ────────────────────────────────────────────────────────────────
 
-module _ {parts : List (List ℕ)} {work : List ℕ} {n task : ℕ} (p : CmdIn parts work n task) (kind : kind_at (nodes_in parts) n ≡ 6) where
+module _ {run : Run} {work : List ℕ} {n context : ℕ} (p : CmdIn run work n context) (kind : kind_at run.parts.nodes.now n ≡ 6) where
   abbrev 𝓢 : Meaning
-  𝓢 = meaning_in parts (run_in task)
+  𝓢 = meaning run
 
   abbrev field : ℕ
-  field = slot_at (nodes_in parts) n 0
+  field = slot_at run.parts.nodes.now n 0
 
   abbrev source : ℕ
-  source = slot_at (nodes_in parts) n 1
+  source = slot_at run.parts.nodes.now n 1
 
   -- the field is there, and the expression is worked out on the same work store
   field_there : field < p.ready.fields
@@ -108,7 +108,7 @@ module _ {parts : List (List ℕ)} {work : List ℕ} {n task : ℕ} (p : CmdIn p
   pub field-known : 𝓢.KnownMark (mark_in (get_or work field 0))
   field-known = p.ready.words field
 
-  pub source_in : ExpIn parts work (run_in task) source
+  pub source_in : ExpIn run work source
   unfolding held_in kinds
   source_in =
       let below = held_there p.ready.formed n p.inside 6 1 kind (omega arith) in
@@ -116,27 +116,27 @@ module _ {parts : List (List ℕ)} {work : List ℕ} {n task : ℕ} (p : CmdIn p
       let inside = p.inside in
       record { ready = p.ready; inside = omega arith; sort = below.sort }
 
-  at-node : (fuel : ℕ) → exec 𝓢.marking (cmd_at (constants_in parts) (nodes_in parts) n) (𝓢.context_of (context_in task)) (work_of 𝓢.mark_of work) fuel
-      ≡ exec 𝓢.marking (assign n field (exp_at (constants_in parts) (nodes_in parts) source)) (𝓢.context_of (context_in task)) (work_of 𝓢.mark_of work) fuel
+  at-node : (fuel : ℕ) → exec 𝓢.marking (cmd_at run.parts.constants.now run.parts.nodes.now n) (𝓢.context_of context) (work_of 𝓢.mark_of work) fuel
+      ≡ exec 𝓢.marking (assign n field (exp_at run.parts.constants.now run.parts.nodes.now source)) (𝓢.context_of context) (work_of 𝓢.mark_of work) fuel
   at-node fuel =
-      ap (λ (k : Cmd). exec 𝓢.marking k (𝓢.context_of (context_in task)) (work_of 𝓢.mark_of work) fuel)
-      (cmd_at-assign (constants_in parts) p.ready.formed n p.inside kind)
+      ap (λ (k : Cmd). exec 𝓢.marking k (𝓢.context_of context) (work_of 𝓢.mark_of work) fuel)
+      (cmd_at-assign run.parts.constants.now p.ready.formed n p.inside kind)
 
-  module _ {x : ℕ} (evaluated : Evaluated parts work (run_in task) source x) where
+  module _ {x : ℕ} (evaluated : Evaluated run work source x) where
     -- the expression stops
-    pub assigned_stops : Stops x → Assigned parts work n task work x
+    pub assigned_stops : Stops x → Assigned run work n context work x
     assigned_stops large = record {
       is = λ left. or_stopped x left _ large ∙ sym (at-node (suc left) ∙ assign-stops 𝓢.marking _ _ _ _ _ left _ _ (answer-stops evaluated large));
       ready = p.ready;
       number = evaluated.number;
     }
 
-    module _ (goes : Goes x) {k : ℕ} (stored : Stored 𝓢 n (context_in task) (mark_in (get_or work field 0)) (mark_in x) k) where
+    module _ (goes : Goes x) {k : ℕ} (stored : Stored 𝓢 n context (mark_in (get_or work field 0)) (mark_in x) k) where
       -- the mark is refused
-      pub assigned_refused : Stops k → Assigned parts work n task work k
+      pub assigned_refused : Stops k → Assigned run work n context work k
       unfolding work_at
       assigned_refused large =
-          let update = updated-stops 𝓢.marking n (𝓢.context_of (context_in task)) (value_in (get_or work field 0)) (value_in x) _ _ _ _ (answer-stops stored large) in
+          let update = updated-stops 𝓢.marking n (𝓢.context_of context) (value_in (get_or work field 0)) (value_in x) _ _ _ _ (answer-stops stored large) in
           record {
             is = λ left. or_stopped k left _ large
                 ∙ sym (at-node (suc left) ∙ assign-refused 𝓢.marking _ _ field _ (work_of 𝓢.mark_of work) left _ (answer-gives evaluated goes) _ _ update);
@@ -145,11 +145,11 @@ module _ {parts : List (List ℕ)} {work : List ℕ} {n task : ℕ} (p : CmdIn p
           }
 
       -- the field has its new word
-      pub assigned_done : Goes k → {word : ℕ} → Word (value_in x) k word → Assigned parts work n task (set work field word) 0
+      pub assigned_done : Goes k → {word : ℕ} → Word (value_in x) k word → Assigned run work n context (set work field word) 0
       unfolding work_at
       assigned_done fine {word} made =
           let inside : field < length work = rw p.ready.long field-few in
-          let update = updated-gives 𝓢.marking n (𝓢.context_of (context_in task)) (value_in (get_or work field 0)) (value_in x) _ _ _ (answer-gives stored fine) in
+          let update = updated-gives 𝓢.marking n (𝓢.context_of context) (value_in (get_or work field 0)) (value_in x) _ _ _ (answer-gives stored fine) in
           let new : cell_in 𝓢.mark_of word ≡ cell (value_in x) (𝓢.mark_of k) = ap₂ cell made.value (ap 𝓢.mark_of made.mark-is) in
           record {
             is = λ left. or_next 0 left _ (omega arith)

@@ -10,43 +10,49 @@ use Rattle.levels.specs.Lattice.{lattice}
 use Rattle.levels.proofs.Bounds.{lowest_is, highest_is}
 use Rattle.levels.proofs.Laws.{laws}
 use Rattle.rules.specs.Ends.{gives, at}
-use Rattle.store.specs.Marks.{Mark, whole, partial, level_of, is_partial, mark_of, byte_of, mode_of, mark_known}
+use Rattle.store.specs.Marks.{Mark, whole, partial, level_of, is_partial, mark_of, byte_of, strict, permissive, mark_known}
 use Rattle.rules.specs.LevelMarks.{joined, entered}
 use Rattle.marks.specs.Inside.Words.{why_of, Stop}
-use Rattle.marks.specs.Inside.Meanings.{Meaning, Constant, Sealed, Joined, Entered, Stored, constant_in, seal_in, LevelRun, StandsFor, level_marks}
+use Rattle.marks.specs.Inside.Meanings.{Meaning, Constant, Sealed, Joined, Entered, Stored, rows_in, LevelRun, StandsFor, meaning}
+use Rattle.marks.specs.Inside.Modes.{mode_in}
+use Rattle.marks.specs.declared.Run.{Run}
 use Rattle.marks.proofs.Results.{answers_gives, answers_stops}
 use Rattle.store.proofs.Marks.{byte_back, is_whole, is_partial_lem, known_is}
 use Rattle.marks.proofs.Marking.{joined_same, joined_above, level-mark, stored-below, stored-strict, stored_permissive}
 
-module _ (rows : List ℕ) (number run : ℕ) where
+module _ (run : Run) where
   abbrev 𝓢 : Meaning
-  𝓢 = level_marks rows (mode_of number) run
+  𝓢 = meaning run
+
+  abbrev rows : List ℕ
+  rows = rows_in run
 
   few : {m : Mark} {r : ℕ} → StandsFor rows m r → r < 32
   few {m} {r} g = (known_is _ r g.1).0
 
-  pub constant-level : LevelRun rows run → Constant 𝓢 (constant_in run)
-  unfolding lattice
+  pub constant-level : LevelRun run → Constant 𝓢 run.lowest
+  unfolding lattice meaning
   constant-level p =
-      let (is, known, small) = level-mark rows p.order (constant_in run) (rw p.constant (lowest_is rows p.order).level) in
-      record { is = is ∙ ap whole p.constant; known = known; few = omega arith }
+      let (is, known, small) = level-mark rows p.order run.lowest (rw p.lowest (lowest_is rows p.order).level) in
+      record { is = is ∙ ap whole p.lowest; known = known; few = omega arith }
 
-  pub sealed-level : LevelRun rows run → Sealed 𝓢 (seal_in run)
-  unfolding lattice
+  pub sealed-level : LevelRun run → Sealed 𝓢 run.highest
+  unfolding lattice meaning
   sealed-level p =
-      let (is, known, small) = level-mark rows p.order (seal_in run) (rw p.seal (highest_is rows p.order).level) in
-      record { is = is ∙ ap whole p.seal; known = known; few = omega arith }
+      let (is, known, small) = level-mark rows p.order run.highest (rw p.highest (highest_is rows p.order).level) in
+      record { is = is ∙ ap whole p.highest; known = known; few = omega arith }
 
   pub join-level : (m k : ℕ) {r : ℕ} → StandsFor rows (joined (lattice rows) (mark_of m) (mark_of k)) r → Joined 𝓢 m k r
+  unfolding meaning
   join-level m k g = record { is = g.0; known = g.1; few = omega (arith, few g) }
 
   module _ (n context m : ℕ) (h : right rows ≡ true) (level : context < count rows) where
     pub enter_partial : {left r : ℕ} → is_partial (mark_of m) ≡ true → Stop numbers.partial_test n left r → Entered 𝓢 n context m r
-    unfolding why_of at entered
+    unfolding why_of at entered meaning
     enter_partial is s = answers_stops s (omega arith, omega arith) (rw (is_partial_lem (mark_of m) is))
 
     pub enter-whole : {r : ℕ} → is_partial (mark_of m) ≡ false → StandsFor rows (joined (lattice rows) (mark_of context) (mark_of m)) r → Entered 𝓢 n context m r
-    unfolding at entered joined
+    unfolding at entered joined meaning
     enter-whole {r} is g =
         let whole_m = is_whole (mark_of m) is in
         let join : mark_of r ≡ whole ((lattice rows).join context (level_of (mark_of m))) = g.0 ∙ rw ((level-mark rows h context level).0, whole_m) in
@@ -68,11 +74,11 @@ module _ (rows : List ℕ) (number run : ℕ) where
 
       pub store_below : {r : ℕ} → (lattice rows).le context (level_of (mark_of old)) ≡ true → StandsFor rows (joined (lattice rows) (mark_of m) (mark_of context)) r
           → Stored 𝓢 n context old m r
-      unfolding at
+      unfolding at meaning
       store_below {r} le g =
           let (is, known, small) = level-mark rows h context level in
           let most = few g in
-          answers_gives (omega arith) (rw (stored-below (lattice rows) number context (level_of (mark_of old)) (mark_of m) le) (ap gives (rw (← is) (sym g.0))))
+          answers_gives (omega arith) (rw (stored-below (lattice rows) (mode_in run.mode) context (level_of (mark_of old)) (mark_of m) le) (ap gives (rw (← is) (sym g.0))))
           (g.1, omega arith)
 
       -- a field that keeps its mark
@@ -80,15 +86,15 @@ module _ (rows : List ℕ) (number run : ℕ) where
       store_kept le e known =
           store_below le (rw (e, (level-mark rows h context level).0) (joined_above rows old context h known le, known))
 
-      pub store-strict : {left r : ℕ} → (lattice rows).le context (level_of (mark_of old)) ≡ false → number ≡ 0 → Stop numbers.not_below n left r → Stored 𝓢 n context old m r
-      unfolding why_of at
-      store-strict le strict s =
-          answers_stops s (omega arith, omega arith) (rw (stored-strict (lattice rows) number context (level_of (mark_of old)) (mark_of m) le strict))
+      pub store-strict : {left r : ℕ} → (lattice rows).le context (level_of (mark_of old)) ≡ false → mode_in run.mode ≡ strict → Stop numbers.not_below n left r → Stored 𝓢 n context old m r
+      unfolding why_of at meaning
+      store-strict le mode s =
+          answers_stops s (omega arith, omega arith) (rw (stored-strict (lattice rows) (mode_in run.mode) context (level_of (mark_of old)) (mark_of m) le mode))
 
-      pub store_lowered : {r : ℕ} → (lattice rows).le context (level_of (mark_of old)) ≡ false → (number ≡ 0 → ⊥)
+      pub store_lowered : {r : ℕ} → (lattice rows).le context (level_of (mark_of old)) ≡ false → mode_in run.mode ≡ permissive
           → StandsFor rows (partial ((lattice rows).meet context (level_of (mark_of old)))) r → Stored 𝓢 n context old m r
-      unfolding at
-      store_lowered {r} le permissive g =
+      unfolding at meaning
+      store_lowered {r} le mode g =
           let most = few g in
-          answers_gives (omega arith) (rw (stored_permissive (lattice rows) number context (level_of (mark_of old)) (mark_of m) le permissive) (ap gives (sym g.0)))
+          answers_gives (omega arith) (rw (stored_permissive (lattice rows) (mode_in run.mode) context (level_of (mark_of old)) (mark_of m) le mode) (ap gives (sym g.0)))
           (g.1, omega arith)

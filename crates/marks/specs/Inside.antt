@@ -1,4 +1,4 @@
 -- What only contracts and proofs inside the product cite.
-pub mod Parts
 pub mod Words
+pub mod Modes
 pub mod Meanings

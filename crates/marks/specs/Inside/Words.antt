@@ -1,4 +1,4 @@
--- How the functions of a run answer, and what they hand on, in one number. Only contracts inside the product cite it, never a public call.
+-- How the functions of a run answer, in one number. Only contracts inside the product cite it, never a public call.
 --
 --   bits                0 to 31         32 to 47   48 to 55                     56 to 62   63
 --   a field             value           mark       free: 16 bits, for a note
@@ -6,9 +6,8 @@
 --   a stop              fuel left       place      free, for a field             number    1
 --   a run that is done  fuel left       0          0                             0         0
 --   a test              value           context    0                             0         0
---   a task              run             context    0                             0         0
 --
--- To a run, bits 32 to 63 of a field and 32 to 62 of an expression are one number, the mark's. What stands inside a mark's number, a run and a
+-- To a run, bits 32 to 63 of a field and 32 to 62 of an expression are one number, the mark's. What stands inside a mark's number and a
 -- context's number is a matter of `Meanings`.
 use Rattle.std.specs.Prelude.{ℕ, ◌-◌, ◌/◌, ◌%◌, ◌≤◌, ◌<◌, ◌≡◌, cond, List, [], ◌∷◌, get_or, ltb}
 use Rattle.basis.specs.Numbers as numbers
@@ -116,16 +115,3 @@ pub record Answers {A : Type 0} (of : ℕ → A) (Known : ℕ → Type 0) (x : R
   pub is : result_of of r ≡ x
   pub known : Goes r → Known r
   pub number : Numbered r
-
--- ── a task ──────────────────────────────────────────────────────────────────────────────────
-
-abbrev pub run_in : ℕ → ℕ
-run_in task = task % upper_half
-
-abbrev pub context_in : ℕ → ℕ
-context_in task = task / upper_half
-
--- the same run in another context
-pub record InContext (task context r : ℕ) : Type 0 where
-  pub context-is : context_in r ≡ context
-  pub same : run_in r ≡ run_in task

@@ -2,15 +2,15 @@
 use Prim.Native.Nat.{ℕ, suc, ◌-◌, ◌≤◌}
 use native.Mathlib.Omega.{arith}
 use mathlib.Core.List.{List}
-use mathlib.Core.Path.{◌≡◌, refl, sym, ap, ◌∙◌}
+use mathlib.Core.Path.{◌≡◌, sym, ap, ◌∙◌}
 use Rattle.value.specs.Values.{is_true}
 use Rattle.nodes.specs.Nodes.{kind_at}
-use Rattle.marks.specs.Inside.Parts.{nodes_in}
+use Rattle.marks.specs.declared.Run.{Run}
 use Rattle.flow.specs.Inside.Tasks.{CmdIn}
 use Rattle.flow.proofs.Ends.{bit-few}
 use Rattle.flow.proofs.Running.{starts, child, fuel-left, node-few, turn_below, first_stops, second_next, run-spent, at_last}
-use Rattle.flow.proofs.Running.{test_stops, side_below, side_next, while-done, body_below, context-known, round_stops, round_next}
-use Rattle.flow.proofs.commands.+run.Goals as goal
+use Rattle.flow.proofs.Running.{test_stops, side_below, side_next, while-done, body_below, round_stops, round_next}
+use Rattle.flow.proofs.commands.+execute.Goals as goal
 
 -- a unit is spent
 spent : {left : ℕ} → (left ≡ 0 → ⊥) → left ≡ suc (left - 1)
@@ -20,48 +20,48 @@ spent some = omega arith
 a_test : {kind got : ℕ} → got ≡ kind → (got ≡ 7 → ⊥) → 7 ≤ got → 8 ≤ kind
 a_test is sequence single = omega arith
 
-a_while : {parts : List (List ℕ)} {work : List ℕ} {n task got : ℕ} → CmdIn parts work n task → got ≡ kind_at (nodes_in parts) n → 8 ≤ kind_at (nodes_in parts) n → (got ≡ 8 → ⊥)
-    → kind_at (nodes_in parts) n ≡ 9
+a_while : {run : Run} {work : List ℕ} {n context got : ℕ} → CmdIn run work n context → got ≡ kind_at run.parts.nodes.now n → 8 ≤ kind_at run.parts.nodes.now n → (got ≡ 8 → ⊥)
+    → kind_at run.parts.nodes.now n ≡ 9
 a_while command is test if = omega (arith, command.ready.formed.kind _ command.inside)
 
 pub loop-work-init : goal.loop-work-init
 loop-work-init t c = starts _ _ _ _ _ c.requires (omega arith)
 
-pub kind_in-kind-requires : goal.kind_in-kind-requires
-kind_in-kind-requires t c = c.loop-work.invariant.command.inside
+pub kind_of-kind-requires : goal.kind_of-kind-requires
+kind_of-kind-requires t c = c.loop-work.invariant.command.inside
 
 -- ── a sequence ──────────────────────────────────────────────────────────────────────────────
 
-pub slot_in-requires : goal.slot_in-requires
-slot_in-requires t c = (c.loop-work.invariant.command.inside, omega arith)
+pub slot-requires : goal.slot-requires
+slot-requires t c = (c.loop-work.invariant.command.inside, omega arith)
 
-pub run-done-requires : goal.run-done-requires
-run-done-requires t c =
-    let seven = sym c.kind_in-kind.ensures ∙ c.if-kind-eq7.true in
+pub execute-done-requires : goal.execute-done-requires
+execute-done-requires t c =
+    let seven = sym c.kind_of-kind.ensures ∙ c.if-kind-eq7.true in
     let g = c.loop-work.invariant in
     let lower = g.lower in
     let below = turn_below _ _ _ _ _ g seven 0 (omega arith) in
-    (omega (arith, c.slot_in.ensures.0, below.lower), child g.command (rw c.slot_in.ensures.0 below) g.command.context refl)
+    (omega (arith, c.slot.ensures.0, below.lower), child g.command (rw c.slot.ensures.0 below) g.command.context-known)
 
 pub returns-then-done-ge-STOP : goal.returns-then-done-ge-STOP
 returns-then-done-ge-STOP t c =
-    let seven = sym c.kind_in-kind.ensures ∙ c.if-kind-eq7.true in
-    first_stops _ _ _ _ _ c.loop-work.invariant seven (rw c.slot_in.ensures.0 at c.run-done.ensures) c.if-done-ge-STOP.true
+    let seven = sym c.kind_of-kind.ensures ∙ c.if-kind-eq7.true in
+    first_stops _ _ _ _ _ c.loop-work.invariant seven (rw c.slot.ensures.0 at c.execute-done.ensures) c.if-done-ge-STOP.true
 
-pub slot_in-n-requires : goal.slot_in-n-requires
-slot_in-n-requires t c = (c.loop-work.invariant.command.inside, omega arith)
+pub slot-n-requires : goal.slot-n-requires
+slot-n-requires t c = (c.loop-work.invariant.command.inside, omega arith)
 
 pub loop-work-smaller-then-kind-eq7 : goal.loop-work-smaller-then-kind-eq7
 loop-work-smaller-then-kind-eq7 t c =
-    let seven = sym c.kind_in-kind.ensures ∙ c.if-kind-eq7.true in
+    let seven = sym c.kind_of-kind.ensures ∙ c.if-kind-eq7.true in
     let below = turn_below _ _ _ _ _ c.loop-work.invariant seven 1 (omega arith) in
-    omega (arith, c.slot_in-n.ensures.0, below.lower, c.left_in-left.ensures, fuel-left c.run-done.ensures c.if-done-ge-STOP.false)
+    omega (arith, c.slot-n.ensures.0, below.lower, c.left_in-left.ensures, fuel-left c.execute-done.ensures c.if-done-ge-STOP.false)
 
 pub loop-work-preserved-then-kind-eq7 : goal.loop-work-preserved-then-kind-eq7
 loop-work-preserved-then-kind-eq7 t c =
-    let seven = sym c.kind_in-kind.ensures ∙ c.if-kind-eq7.true in
-    rw (c.slot_in-n.ensures.0, c.left_in-left.ensures)
-    (second_next _ _ _ _ _ c.loop-work.invariant seven (rw c.slot_in.ensures.0 at c.run-done.ensures) c.if-done-ge-STOP.false)
+    let seven = sym c.kind_of-kind.ensures ∙ c.if-kind-eq7.true in
+    rw (c.slot-n.ensures.0, c.left_in-left.ensures)
+    (second_next _ _ _ _ _ c.loop-work.invariant seven (rw c.slot.ensures.0 at c.execute-done.ensures) c.if-done-ge-STOP.false)
 
 -- ── any other command ───────────────────────────────────────────────────────────────────────
 
@@ -69,11 +69,11 @@ pub stop-requires : goal.stop-requires
 stop-requires t c = (omega arith, node-few _ _ _ _ _ c.loop-work.invariant)
 
 pub returns-then-left-eq0 : goal.returns-then-left-eq0
-returns-then-left-eq0 t c = run-spent _ _ _ _ _ c.loop-work.invariant (λ seven. c.if-kind-eq7.false (c.kind_in-kind.ensures ∙ seven)) c.if-left-eq0.true c.stop.ensures
+returns-then-left-eq0 t c = run-spent _ _ _ _ _ c.loop-work.invariant (λ seven. c.if-kind-eq7.false (c.kind_of-kind.ensures ∙ seven)) c.if-left-eq0.true c.stop.ensures
 
 pub single-requires : goal.single-requires
 single-requires t c =
-    let is = c.kind_in-kind.ensures in
+    let is = c.kind_of-kind.ensures in
     (c.loop-work.invariant.command, omega (arith, c.if-kind-lt7.true))
 
 pub returns-then-kind-lt7 : goal.returns-then-kind-lt7
@@ -85,89 +85,84 @@ returns-then-kind-lt7 t c =
 
 pub test-got-requires : goal.test-got-requires
 test-got-requires t c =
-    let test = a_test c.kind_in-kind.ensures c.if-kind-eq7.false c.if-kind-lt7.false in
+    let test = a_test c.kind_of-kind.ensures c.if-kind-eq7.false c.if-kind-lt7.false in
     (c.loop-work.invariant.command, test)
 
 pub returns-then-got-ge-STOP : goal.returns-then-got-ge-STOP
 returns-then-got-ge-STOP t c =
     let unit = spent c.if-left-eq0.false in
-    let test = a_test c.kind_in-kind.ensures c.if-kind-eq7.false c.if-kind-lt7.false in
+    let test = a_test c.kind_of-kind.ensures c.if-kind-eq7.false c.if-kind-lt7.false in
     test_stops _ _ _ _ _ c.loop-work.invariant unit c.test-got.ensures test c.if-got-ge-STOP.true c.with_left.ensures
 
 pub overflow_sub-holds : goal.overflow_sub-holds
 overflow_sub-holds t c = omega (arith, bit-few c.is_true-holds.result)
 
-pub slot_in-n-requires-then-kind-eq8 : goal.slot_in-n-requires-then-kind-eq8
-slot_in-n-requires-then-kind-eq8 t c = (c.loop-work.invariant.command.inside, omega arith)
+pub slot-n-requires-then-kind-eq8 : goal.slot-n-requires-then-kind-eq8
+slot-n-requires-then-kind-eq8 t c = (c.loop-work.invariant.command.inside, omega arith)
 
 pub loop-work-smaller-then-kind-eq8 : goal.loop-work-smaller-then-kind-eq8
 loop-work-smaller-then-kind-eq8 t c =
     let unit = spent c.if-left-eq0.false in
-    let eight = sym c.kind_in-kind.ensures ∙ c.if-kind-eq8.true in
+    let eight = sym c.kind_of-kind.ensures ∙ c.if-kind-eq8.true in
     let g = c.loop-work.invariant in
     let below = side_below _ _ _ _ _ g unit c.test-got.ensures c.if-got-ge-STOP.false eight c.is_true-holds.result in
-    omega (arith, c.slot_in-n-then-kind-eq8.ensures.0, below.lower, unit)
+    omega (arith, c.slot-n-then-kind-eq8.ensures.0, below.lower, unit)
 
 pub loop-work-preserved-then-kind-eq8 : goal.loop-work-preserved-then-kind-eq8
 loop-work-preserved-then-kind-eq8 t c =
     let unit = spent c.if-left-eq0.false in
-    let eight = sym c.kind_in-kind.ensures ∙ c.if-kind-eq8.true in
+    let eight = sym c.kind_of-kind.ensures ∙ c.if-kind-eq8.true in
     let holds = sym (c.is_true-holds.ensures ∙ ap is_true c.value_in.ensures) in
-    let joined = rw c.mark_in.ensures at c.in_context-task.ensures in
-    rw c.slot_in-n-then-kind-eq8.ensures.0
+    rw (c.slot-n-then-kind-eq8.ensures.0, c.mark_in-context.ensures)
     (side_next _ _ _ _ _ c.loop-work.invariant unit c.test-got.ensures c.if-got-ge-STOP.false eight
-    c.is_true-holds.result holds joined)
+    c.is_true-holds.result holds)
 
 -- ── a while ─────────────────────────────────────────────────────────────────────────────────
 
 pub returns-then-round-ge-STOP : goal.returns-then-round-ge-STOP
 returns-then-round-ge-STOP t c =
     let unit = spent c.if-left-eq0.false in
-    let test = a_test c.kind_in-kind.ensures c.if-kind-eq7.false c.if-kind-lt7.false in
-    let nine = a_while c.loop-work.invariant.command c.kind_in-kind.ensures test c.if-kind-eq8.false in
+    let test = a_test c.kind_of-kind.ensures c.if-kind-eq7.false c.if-kind-lt7.false in
+    let nine = a_while c.loop-work.invariant.command c.kind_of-kind.ensures test c.if-kind-eq8.false in
     let holds = sym (c.is_true-holds.ensures ∙ ap is_true c.value_in.ensures) in
-    let joined = rw c.mark_in.ensures at c.in_context-task.ensures in
     round_stops _ _ _ _ _ c.loop-work.invariant unit c.test-got.ensures c.if-got-ge-STOP.false nine
-    (holds ∙ c.if-holds.true) joined (rw c.slot_in-then-holds.ensures.0 at c.run-round.ensures) c.if-round-ge-STOP.true
+    (holds ∙ c.if-holds.true) (rw (c.slot-then-holds.ensures.0, c.mark_in-context.ensures) at c.execute-round.ensures) c.if-round-ge-STOP.true
 
 pub loop-work-smaller : goal.loop-work-smaller
 loop-work-smaller t c =
     let unit = spent c.if-left-eq0.false in
-    omega (arith, unit, c.left_in-left-then-holds.ensures, fuel-left c.run-round.ensures c.if-round-ge-STOP.false)
+    omega (arith, unit, c.left_in-left-then-holds.ensures, fuel-left c.execute-round.ensures c.if-round-ge-STOP.false)
 
 pub loop-work-preserved : goal.loop-work-preserved
 loop-work-preserved t c =
     let unit = spent c.if-left-eq0.false in
-    let test = a_test c.kind_in-kind.ensures c.if-kind-eq7.false c.if-kind-lt7.false in
-    let nine = a_while c.loop-work.invariant.command c.kind_in-kind.ensures test c.if-kind-eq8.false in
+    let test = a_test c.kind_of-kind.ensures c.if-kind-eq7.false c.if-kind-lt7.false in
+    let nine = a_while c.loop-work.invariant.command c.kind_of-kind.ensures test c.if-kind-eq8.false in
     let holds = sym (c.is_true-holds.ensures ∙ ap is_true c.value_in.ensures) in
-    let joined = rw c.mark_in.ensures at c.in_context-task.ensures in
-    rw c.left_in-left-then-holds.ensures
+    rw (c.left_in-left-then-holds.ensures, c.mark_in-context.ensures)
     (round_next _ _ _ _ _ c.loop-work.invariant unit c.test-got.ensures c.if-got-ge-STOP.false nine
-    (holds ∙ c.if-holds.true) joined (rw c.slot_in-then-holds.ensures.0 at c.run-round.ensures) c.if-round-ge-STOP.false)
+    (holds ∙ c.if-holds.true) (rw (c.slot-then-holds.ensures.0, c.mark_in-context.ensures) at c.execute-round.ensures) c.if-round-ge-STOP.false)
 
 pub returns-else-holds : goal.returns-else-holds
 returns-else-holds t c =
     let unit = spent c.if-left-eq0.false in
-    let test = a_test c.kind_in-kind.ensures c.if-kind-eq7.false c.if-kind-lt7.false in
-    let nine = a_while c.loop-work.invariant.command c.kind_in-kind.ensures test c.if-kind-eq8.false in
+    let test = a_test c.kind_of-kind.ensures c.if-kind-eq7.false c.if-kind-lt7.false in
+    let nine = a_while c.loop-work.invariant.command c.kind_of-kind.ensures test c.if-kind-eq8.false in
     let holds = sym (c.is_true-holds.ensures ∙ ap is_true c.value_in.ensures) in
     while-done _ _ _ _ _ c.loop-work.invariant unit c.test-got.ensures c.if-got-ge-STOP.false nine
     (holds ∙ c.if-holds.false)
 
-pub slot_in-requires-then-holds : goal.slot_in-requires-then-holds
-slot_in-requires-then-holds t c = (c.loop-work.invariant.command.inside, omega arith)
+pub slot-requires-then-holds : goal.slot-requires-then-holds
+slot-requires-then-holds t c = (c.loop-work.invariant.command.inside, omega arith)
 
-pub run-round-requires : goal.run-round-requires
-run-round-requires t c =
+pub execute-round-requires : goal.execute-round-requires
+execute-round-requires t c =
     let unit = spent c.if-left-eq0.false in
-    let test = a_test c.kind_in-kind.ensures c.if-kind-eq7.false c.if-kind-lt7.false in
-    let nine = a_while c.loop-work.invariant.command c.kind_in-kind.ensures test c.if-kind-eq8.false in
+    let test = a_test c.kind_of-kind.ensures c.if-kind-eq7.false c.if-kind-lt7.false in
+    let nine = a_while c.loop-work.invariant.command c.kind_of-kind.ensures test c.if-kind-eq8.false in
     let g = c.loop-work.invariant in
     let lower = g.lower in
-    let below = body_below _ _ _ _ _ g unit c.test-got.ensures c.if-got-ge-STOP.false nine in
-    let joined = rw c.mark_in.ensures at c.in_context-task.ensures in (
-      omega (arith, c.slot_in-then-holds.ensures.0, below.lower),
-      child g.command (rw c.slot_in-then-holds.ensures.0 below)
-          (context-known _ _ _ _ _ g unit c.test-got.ensures c.if-got-ge-STOP.false joined) joined.same,
+    let below = body_below _ _ _ _ _ g unit c.test-got.ensures c.if-got-ge-STOP.false nine in (
+      omega (arith, c.slot-then-holds.ensures.0, below.lower),
+      child g.command (rw c.slot-then-holds.ensures.0 below) (rw c.mark_in-context.ensures (c.test-got.ensures.context-known c.if-got-ge-STOP.false)),
     )
