@@ -4,7 +4,8 @@ use native.Mathlib.Omega.{arith}
 use mathlib.Core.Path.{◌≡◌, refl, sym, ap}
 use mathlib.Core.Bool.{Bool, true, false, ◌&&◌}
 use mathlib.Core.List.{List, ◌++◌}
-use borrow.Author.Tests.{eqb-true, eqb-false, leb-true, ltb-true}
+use borrow.Author.Tests.{eqb-true, leb-true, ltb-true}
+use Rattle.std.specs.Prelude.{is_ok}
 use lib.Dec.{ltb, leb}
 use lib.ListN.{length, drop}
 use Rattle.basis.specs.Numbers as numbers
@@ -13,11 +14,10 @@ use Rattle.basis.specs.Checks.{all_hold, tells}
 use Rattle.basis.proofs.Tests.{both, split}
 use Rattle.basis.proofs.Checks.{append-all, no_more, ◌also◌, Numbered}
 use Rattle.levels.specs.Levels.{count}
-use Rattle.sections.specs.Verdict.{verdict_number, verdict_place, passes_of}
+use Rattle.sections.specs.Verdict.{verdict_number, verdict_place, Verdict}
 use Rattle.sections.specs.Sections.{fields_at, nodes_at, levels_of, fields_of, nodes_of}
-use Rattle.sections.specs.declared.verdict.Verdict.{Verdict}
-use Rattle.sections.proofs.Verdicts.{passes-is}
-use Rattle.sections.proofs.Parts.{entries-length}
+use Rattle.sections.proofs.Verdicts.{passes-is, number-some}
+use Rattle.sections.proofs.Cuts.{entries-length}
 use Rattle.sheet.specs.Load.{field_count, load_of}
 use Rattle.sheet.specs.Inside.Loaded.{Loaded}
 use Rattle.sheet.proofs.Loading.{loaded}
@@ -35,8 +35,8 @@ never : {holds : Bool} (number : ℕ) → (number ≡ numbers.done → ⊥) → 
 never number some f = some
 
 module _ (sheet : List ℕ) where
-  some_number : passes_of (load_of sheet) ≡ false → verdict_number (load_of sheet) ≡ numbers.done → ⊥
-  some_number e = eqb-false _ _ e
+  some_number : is_ok (load_of sheet) ≡ false → verdict_number (load_of sheet) ≡ numbers.done → ⊥
+  some_number e = number-some _ e
 
   pub sheet_numbered : Numbered (sheet_checks sheet)
   sheet_numbered = some_number also no_more
@@ -57,7 +57,7 @@ module _ (sheet : List ℕ) where
   pub load_is : load sheet ≡ refusal (verdict_number (load_of sheet)) (verdict_place (load_of sheet))
   unfolding load tells
   load_is =
-      split (passes_of (load_of sheet))
+      split (is_ok (load_of sheet))
       (λ t. rw t (ap (λ (v : Verdict). refusal (verdict_number v) (verdict_place v)) (sym (passes-is (load_of sheet) t))))
       (λ f. rw f refl)
 
@@ -80,7 +80,7 @@ module _ (sheet : List ℕ) where
   run_holds store mode fuel room h =
       let (asked, rest) = both (leb mode 1 && leb fuel 1000000) _ h in
       let (known, few) = both (leb mode 1) _ asked in
-      let (passes, more) = both (passes_of (load_of sheet)) _ rest in
+      let (passes, more) = both (is_ok (load_of sheet)) _ rest in
       let (fits, most) = both (store_fits (field_count sheet) store) _ more in
       let (marks, last) = both (marks_right (mode_of mode) (count (levels_of sheet)) (field_count sheet) store) _ most in
       record {

@@ -12,7 +12,7 @@ use Rattle.basis.proofs.Tests.{split}
 use Rattle.levels.specs.Levels.{count, right, lowest_of}
 use Rattle.levels.specs.Lattice.{lattice}
 use Rattle.levels.proofs.Bounds.{lowest_is}
-use Rattle.sections.specs.Sections.{levels_of, constants_of, nodes_of}
+use Rattle.sections.specs.Sections.{levels_of, fields_of, constants_of, nodes_of}
 use Rattle.sheet.specs.Load.{field_count, last_of, program_of}
 use Rattle.rules.specs.Ends.{stop_number, out_of_range, divisor_zero, not_below, partial_test, End, done, stopped}
 use Rattle.rules.specs.Rules.{exec}
@@ -23,7 +23,7 @@ use Rattle.marks.specs.Inside.Words.{mark_in, work_of, Goes, Stops, left_in, pla
 use Rattle.marks.specs.Inside.Modes.{mode_in}
 use Rattle.marks.specs.Inside.Meanings.{rows_in, LevelRun, meaning, First}
 use Rattle.marks.specs.declared.Run.{Run}
-use Rattle.marks.specs.declared.parts.Parts.{Parts}
+use Rattle.sections.specs.declared.Parts.{Parts}
 use Rattle.flow.specs.Inside.Tasks.{Fetched, stop_of, end_of, Told, CmdIn, Ran}
 use Rattle.store.proofs.Marks.{known_is, marks-known}
 use Rattle.marks.proofs.Marking.{level-mark}
@@ -77,17 +77,19 @@ module _ (word fuel : ℕ) (told : Told word) where
 -- the run over a sheet in a mode
 pub record Starts (sheet : List ℕ) (mode : ℕ) (run : Run) : Type 0 where
   pub levels : rows_in run ≡ levels_of sheet
+  pub fields : run.parts.fields.now ≡ fields_of sheet
   pub constants : run.parts.constants.now ≡ constants_of sheet
   pub nodes : run.parts.nodes.now ≡ nodes_of sheet
   pub mode-is : mode_in run.mode ≡ mode_of mode
   pub level-run : LevelRun run
 
-pub starts : {sheet : List ℕ} {mode : ℕ} {parts : Parts} {run : Run} → First parts mode run → parts.levels.now ≡ levels_of sheet → parts.constants.now ≡ constants_of sheet
-    → parts.nodes.now ≡ nodes_of sheet → Starts sheet mode run
-starts first levels constants nodes =
+pub starts : {sheet : List ℕ} {mode : ℕ} {parts : Parts} {run : Run} → First parts mode run → parts.levels.now ≡ levels_of sheet → parts.fields.now ≡ fields_of sheet
+    → parts.constants.now ≡ constants_of sheet → parts.nodes.now ≡ nodes_of sheet → Starts sheet mode run
+starts first levels fields constants nodes =
     let are = first.parts-are in
     record {
       levels = ap (λ (p : Parts). p.levels.now) are ∙ levels;
+      fields = ap (λ (p : Parts). p.fields.now) are ∙ fields;
       constants = ap (λ (p : Parts). p.constants.now) are ∙ constants;
       nodes = ap (λ (p : Parts). p.nodes.now) are ∙ nodes;
       mode-is = first.mode-is;
@@ -107,7 +109,7 @@ some_level rows h = omega (arith, (lowest_is rows h).level)
 
 -- the last command may be done
 pub task_in : {sheet store : List ℕ} {mode fuel room : ℕ} {work : List ℕ} {run : Run} → Given sheet store mode fuel room → Fetched store work → Starts sheet mode run
-    → CmdIn run work (last_of (nodes_of sheet)) run.lowest
+    → CmdIn run work (last_of run.parts.nodes.now) run.lowest
 unfolding meaning
 task_in {sheet} {store} {mode} {fuel} {room} {work} given fetched s =
     let taken = given.taken in
@@ -135,7 +137,7 @@ task_in {sheet} {store} {mode} {fuel} {room} {work} given fetched s =
 pub record Done (sheet store : List ℕ) (mode : ℕ) (run : Run) (work : List ℕ) (fuel : ℕ) (after : List ℕ) (word : ℕ) : Type 0 where
   pub same : work_of mark_of work ≡ store_of store
   pub starts : Starts sheet mode run
-  pub ran : Ran run work (last_of (nodes_of sheet)) run.lowest fuel after word
+  pub ran : Ran run work (last_of run.parts.nodes.now) run.lowest fuel after word
 
 module _ {sheet store : List ℕ} {mode : ℕ} {run : Run} {work : List ℕ} {fuel : ℕ} {after : List ℕ} {word : ℕ} (d : Done sheet store mode run work fuel after word) where
   abbrev executed : End Mark

@@ -15,11 +15,11 @@ use Rattle.basis.proofs.Tests.{both, split, first-most}
 use Rattle.basis.proofs.Checks.{first_holds, first-fails, tells-success, append-holds, append-fails, no_more, ◌also◌, tells_one, goes_on, refuses}
 use Rattle.levels.specs.Levels.{count}
 use Rattle.levels.specs.Lattice.{lattice}
-use Rattle.sections.specs.Verdict.{verdict_number, verdict_place}
+use Rattle.std.specs.Prelude.{Ok, Err}
+use Rattle.sections.specs.Verdict.{Verdict, verdict_number, verdict_place}
 use Rattle.sections.specs.Sections.{levels_of, constants_of, nodes_of}
 use Rattle.sections.specs.declared.verdict.Fault.TheVariants.{Unknown, Unused, Range, Sort}
-use Rattle.sections.specs.declared.verdict.Verdict.{Verdict}
-use Rattle.sections.specs.declared.verdict.Verdict.TheVariants.{Passes, Length, Count, Levels, Name, Node, Uses, Depth}
+use Rattle.sections.specs.declared.verdict.SheetError.TheVariants.{Length, Count, Levels, Name, Node, Uses, Depth}
 use Rattle.sheet.specs.Load.{field_count, last_of, load_of}
 use Rattle.sheet.proofs.Loading.{load-placed}
 use Rattle.store.specs.Marks.{Mark, permissive, mode_of}
@@ -73,17 +73,17 @@ pub within-fits : {fuel : ℕ} {a : Answer} → Within fuel a → Fits a
 within-fits w = record { number = omega (arith, w.number.0); place = omega (arith, w.place) }
 
 verdict_range : (v : Verdict) → InTable (verdict_number v)
-verdict_range Passes = (omega arith, λ e. omega arith)
-verdict_range Length = (omega arith, λ e. omega arith)
-verdict_range Count = (omega arith, λ e. omega arith)
-verdict_range Levels = (omega arith, λ e. omega arith)
-verdict_range Name = (omega arith, λ e. omega arith)
-verdict_range (Node Unknown n) = (omega arith, λ e. omega arith)
-verdict_range (Node Unused n) = (omega arith, λ e. omega arith)
-verdict_range (Node Range n) = (omega arith, λ e. omega arith)
-verdict_range (Node Sort n) = (omega arith, λ e. omega arith)
-verdict_range Uses = (omega arith, λ e. omega arith)
-verdict_range Depth = (omega arith, λ e. omega arith)
+verdict_range (Ok none) = (omega arith, λ e. omega arith)
+verdict_range (Err Length) = (omega arith, λ e. omega arith)
+verdict_range (Err Count) = (omega arith, λ e. omega arith)
+verdict_range (Err Levels) = (omega arith, λ e. omega arith)
+verdict_range (Err Name) = (omega arith, λ e. omega arith)
+verdict_range (Err (Node Unknown n)) = (omega arith, λ e. omega arith)
+verdict_range (Err (Node Unused n)) = (omega arith, λ e. omega arith)
+verdict_range (Err (Node Range n)) = (omega arith, λ e. omega arith)
+verdict_range (Err (Node Sort n)) = (omega arith, λ e. omega arith)
+verdict_range (Err Uses) = (omega arith, λ e. omega arith)
+verdict_range (Err Depth) = (omega arith, λ e. omega arith)
 
 why_range : (why : Why) → InTable (stop_number why)
 why_range out_of_range = (omega arith, λ e. omega arith)

@@ -1,13 +1,13 @@
 -- The shop's calls: what each answers and what it leaves in lent memory, from what comes in. Each is a list of checks, in the order of document 01's table,
 -- and what comes after them.
-use Rattle.std.specs.Prelude.{ℕ, ◌-◌, ◌≡◌, ◌&&◌, List, [], ◌∷◌, ◌++◌, length, ltb, leb}
+use Rattle.std.specs.Prelude.{ℕ, ◌-◌, ◌≡◌, ◌&&◌, List, [], ◌∷◌, ◌++◌, length, ltb, leb, is_ok}
 use Rattle.basis.specs.Numbers as numbers
 use Rattle.basis.specs.declared.answer.Answer.{Answer}
 use Rattle.basis.specs.Answer.{answer, success, word_of, Outcome}
 use Rattle.basis.specs.Checks.{Check, check, all_hold, tells, checked}
 use Rattle.levels.specs.Levels.{count}
 use Rattle.levels.specs.Lattice.{lattice}
-use Rattle.sections.specs.Verdict.{verdict_number, verdict_place, passes_of}
+use Rattle.sections.specs.Verdict.{verdict_number, verdict_place}
 use Rattle.sections.specs.Sections.{levels_of}
 use Rattle.sheet.specs.Load.{field_count, program_of, load_of, judging}
 use Rattle.store.specs.Marks.{Mark, mark_of, Mode, permissive, mode_of, mark_known}
@@ -22,7 +22,7 @@ use Rattle.handout.specs.Answers.{answer_length, answer_over, first_refusing, an
 
 -- 1 to 7 and 19 to 22: what load tells of a sheet
 abbrev pub sheet_checks : List ℕ → List Check
-sheet_checks sheet = check (passes_of (load_of sheet)) (verdict_number (load_of sheet)) (verdict_place (load_of sheet)) ∷ []
+sheet_checks sheet = check (is_ok (load_of sheet)) (verdict_number (load_of sheet)) (verdict_place (load_of sheet)) ∷ []
 
 abbrev pub store_checks : List ℕ → List ℕ → Mode → List Check
 store_checks sheet store mode =

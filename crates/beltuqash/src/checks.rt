@@ -9,7 +9,7 @@ ghost use Rattle.beltuqash.specs.Inside.Given.{Taken};
 use basis::answer::{Answer, refusal, success};
 use basis::numbers;
 use handout::{answers, requests};
-use sections::verdict;
+use sections::Parts;
 
 // A hand-out takes any mark that the sheet knows, as a permissive run does.
 const PERMISSIVE: u32 = 1;
@@ -18,8 +18,10 @@ const PERMISSIVE: u32 = 1;
 pub fn judge_sheet(sheet: &[u8]) -> Answer
     ensures { result ≡ load sheet.now }
 {
-    let verdict = sheet::load(sheet);
-    refusal(verdict::number(verdict), verdict::place(verdict) as u16)
+    match sheet::load(sheet) {
+        Ok(()) => success(0),
+        Err(wrong) => refusal(wrong.number(), wrong.place() as u16),
+    }
 }
 
 // A store, beside a sheet that passes: 8 and 9.
@@ -27,11 +29,12 @@ fn judge_store(sheet: &[u8], store: &[u8], mode: u32) -> Answer
     requires { Loaded sheet.now }
     ensures { result ≡ tells (store_checks sheet.now store.now (mode_of mode)) }
 {
-    let fields = sections::fields(sheet).len() / 8;
+    let parts = Parts::of(sheet);
+    let fields = parts.fields.len() / 8;
     if !store::fits(store, fields) {
         return refusal(numbers::STORE_MISFIT, 0);
     }
-    if !store::marks_right(store, mode, sections::levels(sheet).len() / 2, fields) {
+    if !store::marks_right(store, mode, parts.levels.len() / 2, fields) {
         return refusal(numbers::MARK_WRONG, 0);
     }
     success(0)
@@ -59,7 +62,7 @@ pub fn judge_run(sheet: &[u8], store: &[u8], mode: u32, fuel: u32, room: usize) 
     if refused.number != numbers::DONE {
         return refused;
     }
-    if room < store::length(sections::fields(sheet).len() / 8) {
+    if room < store::length(Parts::of(sheet).fields.len() / 8) {
         return refusal(numbers::OUT_SHORT, 0);
     }
     success(0)
@@ -87,15 +90,15 @@ fn judge_request(sheet: &[u8], store: &[u8], reader: u32, request: &[u8], room: 
     requires { Taken sheet.now store.now (mode_of 1) }
     ensures { result ≡ tells (request_checks sheet.now store.now reader request.now room) }
 {
-    let rows = sections::levels(sheet);
-    let known = (reader as usize) < rows.len() / 2;
-    if !(known & requests::right(request, sections::fields(sheet).len() / 8)) {
+    let parts = Parts::of(sheet);
+    let known = (reader as usize) < parts.levels.len() / 2;
+    if !(known & requests::right(request, parts.fields.len() / 8)) {
         return refusal(numbers::READER_OR_REQUEST, 0);
     }
     if room < answers::length(request) {
         return refusal(numbers::OUT_SHORT, 0);
     }
-    let first = answers::first_refusing(rows, store, reader as usize, request);
+    let first = answers::first_refusing(parts.levels, store, reader as usize, request);
     if first < requests::count(request) {
         return refusal(numbers::PARTIAL_ASKED, first as u16);
     }

@@ -10,6 +10,7 @@ ghost use Rattle.beltuqash.specs.Calls.{load, run, hand_out, Tells, Yields};
 
 use basis::answer::{pack, success};
 use basis::numbers::DONE;
+use sections::Parts;
 
 // Judges a sheet.
 pub fn beltuqash_load(sheet: &[u8]) -> u64
@@ -47,7 +48,7 @@ pub fn beltuqash_hand_out(
         return pack(refused);
     }
     handout::answers::give(
-        sections::levels(sheet),
+        Parts::of(sheet).levels,
         store,
         reader as usize,
         request,

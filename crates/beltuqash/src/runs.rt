@@ -6,25 +6,21 @@ ghost use Rattle.beltuqash.specs.Calls.{ended, run_from};
 ghost use Rattle.beltuqash.specs.Inside.Given.{Given, Comes};
 
 use basis::answer::{Answer, success};
-use marks::parts::Parts;
 use marks::{Run, words};
+use sections::Parts;
 
-// Runs a sheet that passes from a store that fits it, on a work store: only a run that is done writes.
+// Runs a sheet that passes from a store that fits it, on a work store: only a run that is done writes. The work store lies on the stack
+// once the sheet is judged, and not below that.
+#[inline(never)]
 pub fn run_from(sheet: &[u8], store: &[u8], mode: u32, fuel: u32, out: &mut [u8]) -> Answer
     requires { Given sheet.now store.now mode fuel (length out.old) }
     ensures { Comes (run_from sheet.now store.now mode fuel out.old) result out.new }
 {
-    let parts = Parts {
-        levels: sections::levels(sheet),
-        fields: sections::fields(sheet),
-        constants: sections::constants(sheet),
-        nodes: sections::nodes(sheet),
-    };
-    let fields = parts.fields.len() / 8;
-    let last = parts.nodes.len() / 8 - 1;
+    let run = Run::new(Parts::of(sheet), mode);
+    let fields = run.parts.fields.len() / 8;
+    let last = run.parts.nodes.len() / 8 - 1;
     let mut work = [0u64; 64];
     flow::work::fetch(store, &mut work, fields);
-    let run = Run::new(parts, mode);
     let word = flow::commands::execute(&run, &mut work, last, run.lowest, fuel);
     if words::STOP <= word {
         return stopped(word, fuel);

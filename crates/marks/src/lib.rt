@@ -13,7 +13,7 @@ ghost use Rattle.marks.specs.Inside.Modes.{mode_in};
 ghost use Rattle.marks.specs.Inside.Meanings.{meaning, Constant, Sealed, Read, Joined, Entered, Stored, Joins, Enters, Stores, First};
 
 use basis::numbers;
-use parts::Parts;
+use sections::Parts;
 use words::stop;
 
 /// What a run does where its context lies not at or below a field's level: it stops, or lowers the field.

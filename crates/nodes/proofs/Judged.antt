@@ -11,13 +11,14 @@ use borrow.Author.Tests.{leb-true, ltb-true, eqb-true, eq-eqb, lt-leb}
 use lib.Dec.{eqb, leb, ltb}
 use Rattle.basis.specs.Tests.{all}
 use Rattle.basis.proofs.Tests.{both, split, all-at, all_same, all_both}
-use Rattle.sections.specs.Verdict.{passes_of, ◌then◌}
+use Rattle.std.specs.Prelude.{Ok, Err, is_ok}
+use Rattle.sections.specs.Verdict.{◌then◌}
 use Rattle.nodes.specs.Nodes.{In, node_count, kind_at, op_at, slot_at, held_in, is_child, known, operator_zero, zero_in, range_right, sort_right, slot_right, slots_right, node_verdict, verdict_below, nodes_verdict}
 use Rattle.nodes.specs.Inside.Formed.{Holds, WellFormed}
 use Rattle.nodes.specs.declared.Held.{Held}
 use Rattle.nodes.specs.declared.Held.TheVariants.{Nothing, Constant, Field, Expression, Command}
 use Rattle.sections.specs.declared.verdict.Fault.TheVariants.{Unknown, Unused, Range, Sort}
-use Rattle.sections.specs.declared.verdict.Verdict.TheVariants.{Passes, Node}
+use Rattle.sections.specs.declared.verdict.SheetError.TheVariants.{Node}
 use Rattle.sections.proofs.Verdicts.{then_next, then_first, both_pass, told_then, told_last, Placed, told-placed, then_placed}
 
 -- a kind and an operator that are known
@@ -31,31 +32,31 @@ module _ (s : List ℕ) (fields constants : ℕ) where
   -- ── a node judged ─────────────────────────────────────────────────────────────────────────
 
   module _ (n : ℕ) where
-    pub told_unknown : known (kind_at s n) (op_at s n) ≡ false → Node Unknown n ≡ node_verdict s fields constants n
+    pub told_unknown : known (kind_at s n) (op_at s n) ≡ false → Err (Node Unknown n) ≡ node_verdict s fields constants n
     unfolding node_verdict ◌then◌
     told_unknown e = simp e
 
     module _ (kn : known (kind_at s n) (op_at s n) ≡ true) where
-      pub told-operator : operator_zero (kind_at s n) (op_at s n) ≡ false → Node Unused n ≡ node_verdict s fields constants n
+      pub told-operator : operator_zero (kind_at s n) (op_at s n) ≡ false → Err (Node Unused n) ≡ node_verdict s fields constants n
       unfolding node_verdict ◌then◌
       told-operator e = simp (kn, e)
 
       module _ (op : operator_zero (kind_at s n) (op_at s n) ≡ true) where
-        pub told_unused : slots_right s fields constants n Unused ≡ false → Node Unused n ≡ node_verdict s fields constants n
+        pub told_unused : slots_right s fields constants n Unused ≡ false → Err (Node Unused n) ≡ node_verdict s fields constants n
         unfolding node_verdict ◌then◌
         told_unused e = simp (kn, op, e)
 
         module _ (unused : slots_right s fields constants n Unused ≡ true) where
-          pub told_range : slots_right s fields constants n Range ≡ false → Node Range n ≡ node_verdict s fields constants n
+          pub told_range : slots_right s fields constants n Range ≡ false → Err (Node Range n) ≡ node_verdict s fields constants n
           unfolding node_verdict ◌then◌
           told_range e = simp (kn, op, unused, e)
 
           module _ (range : slots_right s fields constants n Range ≡ true) where
-            pub told-sort : slots_right s fields constants n Sort ≡ false → Node Sort n ≡ node_verdict s fields constants n
+            pub told-sort : slots_right s fields constants n Sort ≡ false → Err (Node Sort n) ≡ node_verdict s fields constants n
             unfolding node_verdict ◌then◌
             told-sort e = simp (kn, op, unused, range, e)
 
-            pub told_none : slots_right s fields constants n Sort ≡ true → Passes ≡ node_verdict s fields constants n
+            pub told_none : slots_right s fields constants n Sort ≡ true → Ok tt ≡ node_verdict s fields constants n
             unfolding node_verdict ◌then◌
             told_none e = simp (kn, op, unused, range, e)
 
@@ -88,20 +89,20 @@ module _ (s : List ℕ) (fields constants : ℕ) where
         ∙ all_both 3 _ _
         ∙ ap (λ (b : Bool). slots_right s fields constants n Unused && b) (all_both 3 _ _)
 
-    pub passes-node : passes_of (node_verdict s fields constants n) ≡ (known (kind_at s n) (op_at s n) && operator_zero (kind_at s n) (op_at s n) && slots_free)
+    pub passes-node : is_ok (node_verdict s fields constants n) ≡ (known (kind_at s n) (op_at s n) && operator_zero (kind_at s n) (op_at s n) && slots_free)
     unfolding node_verdict
     passes-node =
-        rw (told_then _ (Node Unknown n) _ refl, told_then _ (Node Unused n) _ refl, told_then _ (Node Range n) _ refl, told_last _ (Node Sort n) refl, free_of_each)
+        rw (told_then _ (Node Unknown n) _, told_then _ (Node Unused n) _, told_then _ (Node Range n) _, told_last _ (Node Sort n), free_of_each)
         (simp and_assoc)
 
-    pub right : passes_of (node_verdict s fields constants n) ≡ true
+    pub right : is_ok (node_verdict s fields constants n) ≡ true
         → (known (kind_at s n) (op_at s n) ≡ true) × ((k : ℕ) → k < 3 → free (held_in (kind_at s n) k) (slot_at s n k) ≡ true)
     right e =
         let h = both (known (kind_at s n) (op_at s n) && operator_zero (kind_at s n) (op_at s n)) slots_free (sym passes-node ∙ e) in
         ((both (known (kind_at s n) (op_at s n)) (operator_zero (kind_at s n) (op_at s n)) h.0).0, all-at 3 _ h.1)
 
     -- its children are lower
-    pub child_lower : passes_of (node_verdict s fields constants n) ≡ true → (k : ℕ) → k < 3 → is_child (held_in (kind_at s n) k) ≡ true → slot_at s n k < n
+    pub child_lower : is_ok (node_verdict s fields constants n) ≡ true → (k : ℕ) → k < 3 → is_child (held_in (kind_at s n) k) ≡ true → slot_at s n k < n
     child_lower e k l = go (held_in (kind_at s n) k) ((right e).1 k l)
       where
         go : (h : Held) → free h (slot_at s n k) ≡ true → is_child h ≡ true → slot_at s n k < n
@@ -113,16 +114,16 @@ module _ (s : List ℕ) (fields constants : ℕ) where
 
   -- ── the lowest node first ─────────────────────────────────────────────────────────────────
 
-  pub none_below : verdict_below s fields constants 0 ≡ Passes
+  pub none_below : verdict_below s fields constants 0 ≡ Ok tt
   unfolding verdict_below
   none_below = refl
 
-  pub one_more : (n : ℕ) → verdict_below s fields constants n ≡ Passes → node_verdict s fields constants n ≡ Passes → verdict_below s fields constants (n + 1) ≡ Passes
+  pub one_more : (n : ℕ) → verdict_below s fields constants n ≡ Ok tt → node_verdict s fields constants n ≡ Ok tt → verdict_below s fields constants (n + 1) ≡ Ok tt
   unfolding verdict_below ◌then◌
   one_more n below here = rw (add-one n) (rw (below, here))
 
   -- where the nodes below n pass and n does not, n is told, however many follow
-  pub first-told : (count n : ℕ) → n < count → verdict_below s fields constants n ≡ Passes → passes_of (node_verdict s fields constants n) ≡ false
+  pub first-told : (count n : ℕ) → n < count → verdict_below s fields constants n ≡ Ok tt → is_ok (node_verdict s fields constants n) ≡ false
       → verdict_below s fields constants count ≡ node_verdict s fields constants n
   unfolding verdict_below
   first-told zero n h below here = absurd (omega arith)
@@ -130,11 +131,11 @@ module _ (s : List ℕ) (fields constants : ℕ) where
       let at_most : n ≤ count = omega arith in
       ⊎_elim
       (λ same. ap (λ (k : ℕ). verdict_below s fields constants (suc k)) (sym same) ∙ then_next _ _ below)
-      (λ lower. let told = first-told count n lower below here in then_first _ _ (ap passes_of told ∙ here) ∙ told)
+      (λ lower. let told = first-told count n lower below here in then_first _ _ (ap is_ok told ∙ here) ∙ told)
       (eq-or-lt_of_le at_most)
 
   -- where all pass, each does
-  each-passes : (count : ℕ) → verdict_below s fields constants count ≡ Passes → (n : ℕ) → n < count → node_verdict s fields constants n ≡ Passes
+  each-passes : (count : ℕ) → verdict_below s fields constants count ≡ Ok tt → (n : ℕ) → n < count → node_verdict s fields constants n ≡ Ok tt
   unfolding verdict_below
   each-passes zero e n h = absurd (omega arith)
   each-passes (suc count) e n h =
@@ -172,12 +173,12 @@ module _ (s : List ℕ) (fields constants : ℕ) where
       let lower = ltb-true w n h.0 in
       record { lower = lower; least = ltb-true 4 (kind_at s w) h.1; most = kinds w lower }
 
-  pub well_formed : nodes_verdict s fields constants ≡ Passes → WellFormed s fields constants
+  pub well_formed : nodes_verdict s fields constants ≡ Ok tt → WellFormed s fields constants
   well_formed e =
-      let passes : (n : ℕ) → In s n → node_verdict s fields constants n ≡ Passes = λ n i. each-passes (node_count s) e n (omega arith) in
-      let known-each : (n : ℕ) → In s n → (kind_at s n ≤ 9) × (kind_at s n ≡ 2 → op_at s n ≤ 9) = λ n i. known_is _ _ (right n (ap passes_of (passes n i))).0 in
+      let passes : (n : ℕ) → In s n → node_verdict s fields constants n ≡ Ok tt = λ n i. each-passes (node_count s) e n (omega arith) in
+      let known-each : (n : ℕ) → In s n → (kind_at s n ≤ 9) × (kind_at s n ≡ 2 → op_at s n ≤ 9) = λ n i. known_is _ _ (right n (ap is_ok (passes n i))).0 in
       record {
         kind = λ n i. (known-each n i).0;
         operator = λ n i. (known-each n i).1;
-        slots = λ n k i l. holds n (λ w h. (known-each w (omega arith)).0) (held_in (kind_at s n) k) (slot_at s n k) ((right n (ap passes_of (passes n i))).1 k l);
+        slots = λ n k i l. holds n (λ w h. (known-each w (omega arith)).0) (held_in (kind_at s n) k) (slot_at s n k) ((right n (ap is_ok (passes n i))).1 k l);
       }

@@ -6,7 +6,7 @@ use mathlib.Core.List.{List}
 use borrow.Author.Tests.{lt-leb}
 use lib.Dec.{leb}
 use Rattle.basis.proofs.Tests.{both, all_three}
-use Rattle.sections.specs.Verdict.{passes_of}
+use Rattle.std.specs.Prelude.{is_ok}
 use Rattle.nodes.specs.Nodes.{kind_at, op_at, slot_at, held_in, is_child, known, operator_zero, node_verdict}
 use Rattle.nodes.specs.Inside.Counting.{counted, counted_slots}
 use Rattle.nodes.specs.declared.Held.{Held}
@@ -30,9 +30,9 @@ pub record Read (s : List ℕ) (n kind op a b c : ℕ) : Type 0 where
   pub c_is : c ≡ slot_at s n 2
 
 module _ (s : List ℕ) (fields constants n : ℕ) where
-  pub unknown : 10 ≤ kind_at s n → passes_of (node_verdict s fields constants n) ≡ false
+  pub unknown : 10 ≤ kind_at s n → is_ok (node_verdict s fields constants n) ≡ false
   unfolding known
-  unknown h = ap passes_of (sym (told_unknown s fields constants n (simp (lt-leb (kind_at s n) 9 h))))
+  unknown h = ap is_ok (sym (told_unknown s fields constants n (simp (lt-leb (kind_at s n) 9 h))))
 
   -- r tells whether w may stand in a slot; if it may, and is a child there, it is counted
   abbrev Taken : Held → ℕ → Bool → List ℕ → List ℕ → Type 0
@@ -40,7 +40,7 @@ module _ (s : List ℕ) (fields constants n : ℕ) where
 
   pub taken : {kind op a b c : ℕ} {o x y z : Bool} {used₁ used₂ used₃ : List ℕ} (used : List ℕ) → Read s n kind op a b c → o ≡ (known kind op && operator_zero kind op)
       → Taken (held_in kind 0) a x used used₁ → Taken (held_in kind 1) b y used₁ used₂ → Taken (held_in kind 2) c z used₂ used₃
-      → ((o && x && y && z) ≡ passes_of (node_verdict s fields constants n)) × ((o && x && y && z) ≡ true → used₃ ≡ counted_slots s n 3 used)
+      → ((o && x && y && z) ≡ is_ok (node_verdict s fields constants n)) × ((o && x && y && z) ≡ true → used₃ ≡ counted_slots s n 3 used)
   unfolding counted_slots
   taken {o = o} {x} {y} {z} used node e p q r = (
     rw (e, p.0, q.0, r.0, node.kind-is, node.op_is, node.a_is, node.b_is, node.c_is) (sym (passes-node s fields constants n ∙ rw (all_three _) (simp and_assoc))),

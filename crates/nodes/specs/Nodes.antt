@@ -1,14 +1,13 @@
 -- The nodes: what stands in their slots, and what is wrong with one. `s` is the part of the sheet that holds them, 8 bytes each.
-use Rattle.std.specs.Prelude.{ℕ, zero, suc, ◌+◌, ◌*◌, ◌/◌, ◌≤◌, Bool, true, false, not, ◌&&◌, ◌||◌, List, [], ◌∷◌, length, get_or, eqb, leb, ltb}
+use Rattle.std.specs.Prelude.{ℕ, zero, suc, ◌+◌, ◌*◌, ◌/◌, ◌≤◌, Bool, true, false, not, ◌&&◌, ◌||◌, List, [], ◌∷◌, length, get_or, Ok, eqb, leb, ltb}
 use Rattle.basis.specs.Bytes.{word_at}
 use Rattle.basis.specs.Tests.{all}
-use Rattle.sections.specs.Verdict.{◌then◌, told}
+use Rattle.sections.specs.Verdict.{Verdict, ◌then◌, told}
 use Rattle.nodes.specs.declared.Held.{Held}
 use Rattle.nodes.specs.declared.Held.TheVariants.{Nothing, Constant, Field, Expression, Command}
 use Rattle.sections.specs.declared.verdict.Fault.{Fault}
 use Rattle.sections.specs.declared.verdict.Fault.TheVariants.{Unknown, Unused, Range, Sort}
-use Rattle.sections.specs.declared.verdict.Verdict.{Verdict}
-use Rattle.sections.specs.declared.verdict.Verdict.TheVariants.{Passes, Node}
+use Rattle.sections.specs.declared.verdict.SheetError.TheVariants.{Node}
 
 abbrev pub node_count : List ℕ → ℕ
 node_count s = length s / 8
@@ -110,7 +109,7 @@ node_verdict s fields constants n =
 
 -- of the nodes below n, the lowest first
 unfoldable pub verdict_below : List ℕ → ℕ → ℕ → ℕ → Verdict
-verdict_below s fields constants zero = Passes
+verdict_below s fields constants zero = Ok tt
 verdict_below s fields constants (suc n) = verdict_below s fields constants n then node_verdict s fields constants n
 
 abbrev pub nodes_verdict : List ℕ → ℕ → ℕ → Verdict

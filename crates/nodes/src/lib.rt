@@ -9,7 +9,7 @@ ghost use Rattle.nodes.specs.Nodes.{In, node_count, kind_at, op_at, slot_at, hel
 ghost use Rattle.nodes.specs.Inside.Counting.{TakesChild, TakesNode, Judges};
 
 use basis::word;
-use sections::verdict::{Fault, Verdict};
+use sections::verdict::{Fault, SheetError};
 use uses::count_use;
 
 // What a slot of a node holds.
@@ -194,28 +194,28 @@ fn slots_right(nodes: &[u8], fields: usize, constants: usize, n: usize, fault: F
 }
 
 // Judges node n.
-fn judge_node(nodes: &[u8], fields: usize, constants: usize, n: usize) -> Verdict
+fn judge_node(nodes: &[u8], fields: usize, constants: usize, n: usize) -> Result<(), SheetError>
     requires { In nodes.now n }
     ensures { result ≡ node_verdict nodes.now fields constants n }
 {
     let kind = kind_of(nodes, n);
     let op = op_of(nodes, n);
     if !known_kind(kind, op) {
-        return Verdict::Node(Fault::Unknown, n);
+        return Err(SheetError::Node(Fault::Unknown, n));
     }
     if !operator_zero(kind, op) {
-        return Verdict::Node(Fault::Unused, n);
+        return Err(SheetError::Node(Fault::Unused, n));
     }
     if !slots_right(nodes, fields, constants, n, Fault::Unused) {
-        return Verdict::Node(Fault::Unused, n);
+        return Err(SheetError::Node(Fault::Unused, n));
     }
     if !slots_right(nodes, fields, constants, n, Fault::Range) {
-        return Verdict::Node(Fault::Range, n);
+        return Err(SheetError::Node(Fault::Range, n));
     }
     if !slots_right(nodes, fields, constants, n, Fault::Sort) {
-        return Verdict::Node(Fault::Sort, n);
+        return Err(SheetError::Node(Fault::Sort, n));
     }
-    Verdict::Passes
+    Ok(())
 }
 
 // Takes node w for a child of node n, and counts it: it must be lower, and of the sort that the slot holds.
@@ -269,17 +269,20 @@ fn take_node(nodes: &[u8], fields: usize, constants: usize, n: usize, used: &mut
 
 // Judges all nodes, the lowest first, and counts how often each is a child, from an array of zeros.
 // Which fault it is, is asked only of a node that has one.
-pub fn judge_nodes(nodes: &[u8], fields: usize, constants: usize, used: &mut [u8]) -> Verdict
+pub fn judge_nodes(
+    nodes: &[u8],
+    fields: usize,
+    constants: usize,
+    used: &mut [u8],
+) -> Result<(), SheetError>
     requires { (node_count nodes.now ≤ length used.old) × ((c : ℕ) → get_or used.old c 0 ≡ 0) }
     ensures { Judges nodes.now fields constants used.new result }
 {
     let count = nodes.len() / 8;
-    let mut n = 0;
-    while n < count {
+    for n in 0..count {
         if !take_node(nodes, fields, constants, n, used) {
             return judge_node(nodes, fields, constants, n);
         }
-        n += 1;
     }
-    Verdict::Passes
+    Ok(())
 }

@@ -7,7 +7,7 @@ use borrow.Author.Tests.{ltb-false, eq-eqb, ne_eqb}
 use lib.ListN.{length, take, drop, length-drop}
 use lib.Seq.{drop-length}
 use Rattle.basis.specs.Bytes.{word_at}
-use Rattle.sections.proofs.Parts.{rest-is}
+use Rattle.sections.proofs.Cuts.{rest-is}
 use Rattle.report.specs.File.{sheet_end, store_in, is_cut}
 use Rattle.report.specs.Inside.Given.{Complete}
 

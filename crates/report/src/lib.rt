@@ -37,5 +37,5 @@ fn report_run(file: &[u8], text: &mut [u8]) -> usize
     let fuel = file::fuel(file);
     let mut out = [0u8; LONGEST];
     let word = beltuqash::beltuqash_run(sheet, store, mode, fuel, &mut out);
-    outcome::print(unpack(word), sections::fields(sheet), &out, text)
+    outcome::print(unpack(word), sections::Parts::of(sheet).fields, &out, text)
 }

@@ -15,7 +15,7 @@ use Rattle.basis.proofs.Tests.{both, and_of_lem, all-at, all_of}
 use Rattle.basis.proofs.Checks.{goes_on, past_checks}
 use Rattle.levels.specs.Levels.{count}
 use Rattle.levels.specs.Lattice.{lattice}
-use Rattle.sections.specs.Verdict.{passes_of}
+use Rattle.std.specs.Prelude.{is_ok}
 use Rattle.sections.specs.Sections.{levels_of}
 use Rattle.sheet.specs.Load.{field_count, program_of, load_of}
 use Rattle.store.specs.Cells.{Store}
@@ -93,7 +93,7 @@ module _ {sheet store : List ℕ} {fuel : ℕ} {out : List ℕ} where
   unfolding mode_of all_hold
   permissive_passes passed =
       let (asked, h₁) = both (leb fuel 1000000) _ passed.hold in
-      let (passes, h₂) = both (passes_of (load_of sheet)) _ h₁ in
+      let (passes, h₂) = both (is_ok (load_of sheet)) _ h₁ in
       let (fits, h₃) = both (store_fits (field_count sheet) store) _ h₂ in
       let (marks, room) = both (marks_right strict (count (levels_of sheet)) (field_count sheet) store) _ h₃ in
       record { hold = and_of_lem asked (and_of_lem passes (and_of_lem fits (and_of_lem (taken_permissive _ _ store marks) room))) }

@@ -13,10 +13,10 @@ use Rattle.basis.specs.Answer.{answer, success, refusal, Outcome}
 use Rattle.basis.specs.Checks.{Check, all_hold, checked}
 use Rattle.basis.proofs.Tests.{split}
 use Rattle.basis.proofs.Checks.{tells-success, no_more, ◌also◌, Each, tells_one, goes_on, refuses}
-use Rattle.sections.specs.Verdict.{verdict_number, verdict_place, passes_of}
+use Rattle.std.specs.Prelude.{Ok, Err, is_ok}
+use Rattle.sections.specs.Verdict.{Verdict, verdict_number, verdict_place}
 use Rattle.sections.specs.declared.verdict.Fault.TheVariants.{Unknown, Unused, Range, Sort}
-use Rattle.sections.specs.declared.verdict.Verdict.{Verdict}
-use Rattle.sections.specs.declared.verdict.Verdict.TheVariants.{Passes, Length, Count, Levels, Name, Node, Uses, Depth}
+use Rattle.sections.specs.declared.verdict.SheetError.TheVariants.{Length, Count, Levels, Name, Node, Uses, Depth}
 use Rattle.sheet.specs.Load.{load_of, field_count}
 use Rattle.store.specs.Marks.{Mark}
 use Rattle.store.specs.Stores.{store_length, store_bytes}
@@ -59,19 +59,19 @@ told-success : (given : List ℕ) (units : ℕ) → (among spending numbers.done
 told-success given units free = record { number = inl refl; success-place = λ e. refl; no_place = λ h. refl; no_units = free }
 
 -- a sheet that is refused, in any call
-verdict_early : (more : List ℕ) (v : Verdict) → passes_of v ≡ false → Early (load_numbers ++ more) (refusal (verdict_number v) (verdict_place v))
+verdict_early : (more : List ℕ) (v : Verdict) → is_ok v ≡ false → Early (load_numbers ++ more) (refusal (verdict_number v) (verdict_place v))
 unfolding among
-verdict_early more Passes f = absurd (true≢false f)
-verdict_early more Length f = refused _ numbers.sheet_length 0 refl refl (λ h. refl)
-verdict_early more Count f = refused _ numbers.count_outside 0 refl refl (λ h. refl)
-verdict_early more Levels f = refused _ numbers.levels_wrong 0 refl refl (λ h. refl)
-verdict_early more Name f = refused _ numbers.name_wrong 0 refl refl (λ h. refl)
-verdict_early more (Node Unknown n) f = refused _ numbers.node_unknown n refl refl (λ h. absurd (true≢false h))
-verdict_early more (Node Unused n) f = refused _ numbers.node_unused n refl refl (λ h. absurd (true≢false h))
-verdict_early more (Node Range n) f = refused _ numbers.node_range n refl refl (λ h. absurd (true≢false h))
-verdict_early more (Node Sort n) f = refused _ numbers.node_sort n refl refl (λ h. absurd (true≢false h))
-verdict_early more Uses f = refused _ numbers.not_used_once 0 refl refl (λ h. refl)
-verdict_early more Depth f = refused _ numbers.too_deep 0 refl refl (λ h. refl)
+verdict_early more (Ok none) f = absurd (true≢false f)
+verdict_early more (Err Length) f = refused _ numbers.sheet_length 0 refl refl (λ h. refl)
+verdict_early more (Err Count) f = refused _ numbers.count_outside 0 refl refl (λ h. refl)
+verdict_early more (Err Levels) f = refused _ numbers.levels_wrong 0 refl refl (λ h. refl)
+verdict_early more (Err Name) f = refused _ numbers.name_wrong 0 refl refl (λ h. refl)
+verdict_early more (Err (Node Unknown n)) f = refused _ numbers.node_unknown n refl refl (λ h. absurd (true≢false h))
+verdict_early more (Err (Node Unused n)) f = refused _ numbers.node_unused n refl refl (λ h. absurd (true≢false h))
+verdict_early more (Err (Node Range n)) f = refused _ numbers.node_range n refl refl (λ h. absurd (true≢false h))
+verdict_early more (Err (Node Sort n)) f = refused _ numbers.node_sort n refl refl (λ h. absurd (true≢false h))
+verdict_early more (Err Uses) f = refused _ numbers.not_used_once 0 refl refl (λ h. refl)
+verdict_early more (Err Depth) f = refused _ numbers.too_deep 0 refl refl (λ h. refl)
 
 -- a call whose checks and whose rest are told so
 call_told : (given : List ℕ) (checks : List Check) (out : List ℕ) (next : Outcome) → Each (Early given) checks → Told given next.answer

@@ -1,3 +1,3 @@
--- Checks in order (`Verdicts`) and the sections' parts (`Parts`), for other crates too.
+-- Checks in order (`Verdicts`) and the sections' parts (`Cuts`), for other crates too.
 pub mod Verdicts
-pub mod Parts
+pub mod Cuts

@@ -1,71 +1,72 @@
 -- Checks in order: what passes, and what is told first.
-use mathlib.Core.Path.{◌≡◌, refl, sym, ap, ◌∙◌}
-use mathlib.Core.Bool.{Bool, true, false, cond, ◌&&◌, true≢false}
+use mathlib.Core.Path.{◌≡◌, refl, sym, ap}
+use mathlib.Core.Bool.{Bool, true, false, ◌&&◌, true≢false}
 use Prim.Native.Nat.{ℕ, ◌<◌}
-use Rattle.sections.specs.Verdict.{verdict_place, passes_of, ◌then◌, told}
+use Rattle.std.specs.Prelude.{Ok, Err, is_ok}
+use Rattle.sections.specs.Verdict.{Verdict, error_place, verdict_number, verdict_place, ◌then◌, told}
+use Rattle.basis.specs.Numbers as numbers
+use native.Mathlib.Omega.{arith}
+use Rattle.sections.specs.declared.verdict.SheetError.{SheetError}
+use Rattle.sections.specs.declared.verdict.SheetError.TheVariants.{Length, Count, Levels, Name, Node, Uses, Depth}
 use Rattle.sections.specs.declared.verdict.Fault.TheVariants.{Unknown, Unused, Range, Sort}
-use Rattle.sections.specs.declared.verdict.Verdict.{Verdict}
-use Rattle.sections.specs.declared.verdict.Verdict.TheVariants.{Passes, Length, Count, Levels, Name, Node, Uses, Depth}
 
--- only `Passes` has number 0
-pub passes-is : (v : Verdict) → passes_of v ≡ true → v ≡ Passes
-passes-is Passes e = refl
-passes-is Length e = absurd (true≢false (sym e))
-passes-is Count e = absurd (true≢false (sym e))
-passes-is Levels e = absurd (true≢false (sym e))
-passes-is Name e = absurd (true≢false (sym e))
-passes-is (Node Unknown n) e = absurd (true≢false (sym e))
-passes-is (Node Unused n) e = absurd (true≢false (sym e))
-passes-is (Node Range n) e = absurd (true≢false (sym e))
-passes-is (Node Sort n) e = absurd (true≢false (sym e))
-passes-is Uses e = absurd (true≢false (sym e))
-passes-is Depth e = absurd (true≢false (sym e))
+pub passes-is : (v : Verdict) → is_ok v ≡ true → v ≡ Ok tt
+passes-is (Ok none) e = refl
+passes-is (Err d) e = absurd (true≢false (sym e))
 
-module _ (v w : Verdict) where
-  pub then_next : v ≡ Passes → (v then w) ≡ w
-  unfolding ◌then◌
-  then_next e = rw e
+-- nothing that is wrong has number 0
+pub number-some : (v : Verdict) → is_ok v ≡ false → verdict_number v ≡ numbers.done → ⊥
+number-some (Ok none) f e = absurd (true≢false f)
+number-some (Err Length) f e = omega arith
+number-some (Err Count) f e = omega arith
+number-some (Err Levels) f e = omega arith
+number-some (Err Name) f e = omega arith
+number-some (Err (Node Unknown n)) f e = omega arith
+number-some (Err (Node Unused n)) f e = omega arith
+number-some (Err (Node Range n)) f e = omega arith
+number-some (Err (Node Sort n)) f e = omega arith
+number-some (Err Uses) f e = omega arith
+number-some (Err Depth) f e = omega arith
 
-  pub then_first : passes_of v ≡ false → (v then w) ≡ v
-  unfolding ◌then◌
-  then_first e = rw e
+pub then_next : (v w : Verdict) → v ≡ Ok tt → (v then w) ≡ w
+unfolding ◌then◌
+then_next v w e = rw e
 
-  pub both_pass : (v then w) ≡ Passes → (v ≡ Passes) × (w ≡ Passes)
-  unfolding ◌then◌
-  both_pass e = go (passes_of v) refl e
-    where
-      go : (b : Bool) → passes_of v ≡ b → cond b w v ≡ Passes → (v ≡ Passes) × (w ≡ Passes)
-      go true p e = (passes-is v p, e)
-      go false p e = absurd (true≢false (sym (ap passes_of e) ∙ p))
+pub then_first : (v w : Verdict) → is_ok v ≡ false → (v then w) ≡ v
+unfolding ◌then◌
+then_first (Ok none) w e = absurd (true≢false e)
+then_first (Err d) w e = refl
+
+pub both_pass : (v w : Verdict) → (v then w) ≡ Ok tt → (v ≡ Ok tt) × (w ≡ Ok tt)
+unfolding ◌then◌
+both_pass (Ok none) w e = (refl, e)
+both_pass (Err d) w e = absurd (true≢false (sym (ap is_ok e)))
 
 -- a check that passes
-pub told-right : (right : Bool) (v : Verdict) → passes_of v ≡ false → told right v ≡ Passes → right ≡ true
-told-right true v r e = refl
-told-right false v r e = absurd (true≢false (sym (ap passes_of e) ∙ r))
+pub told-right : (right : Bool) (d : SheetError) → told right d ≡ Ok tt → right ≡ true
+told-right true d e = refl
+told-right false d e = absurd (true≢false (sym (ap is_ok e)))
 
 -- checks in order pass where each does
-pub told_then : (right : Bool) (v w : Verdict) → passes_of v ≡ false → passes_of (told right v then w) ≡ (right && passes_of w)
+pub told_then : (right : Bool) (d : SheetError) (w : Verdict) → is_ok (told right d then w) ≡ (right && is_ok w)
 unfolding ◌then◌
-told_then true v w r = refl
-told_then false v w r = rw r r
+told_then true d w = refl
+told_then false d w = refl
 
-pub told_last : (right : Bool) (v : Verdict) → passes_of v ≡ false → passes_of (told right v) ≡ right
-told_last true v r = refl
-told_last false v r = r
+pub told_last : (right : Bool) (d : SheetError) → is_ok (told right d) ≡ right
+told_last true d = refl
+told_last false d = refl
 
 -- what is told has a place below a number, if each check has
 module _ (few : ℕ) where
   abbrev pub Placed : Verdict → Type 0
   Placed v = verdict_place v < few
 
-  pub told-placed : (right : Bool) (v : Verdict) → 0 < few → Placed v → Placed (told right v)
-  told-placed true v some h = some
-  told-placed false v some h = h
+  pub told-placed : (right : Bool) (d : SheetError) → 0 < few → error_place d < few → Placed (told right d)
+  told-placed true d some h = some
+  told-placed false d some h = h
 
-  pub then_placed : (v w : Verdict) → Placed v → (v ≡ Passes → Placed w) → Placed (v then w)
+  pub then_placed : (v w : Verdict) → Placed v → (v ≡ Ok tt → Placed w) → Placed (v then w)
   unfolding ◌then◌
-  then_placed v w h next = go (passes_of v) refl
-    where
-      go : (b : Bool) → passes_of v ≡ b → Placed (cond b w v)
-      go true p = next (passes-is v p)
-      go false p = h
+  then_placed (Ok none) w h next = next refl
+  then_placed (Err d) w h next = h

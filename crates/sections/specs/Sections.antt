@@ -1,9 +1,8 @@
 -- The sheet's sections, in document 01's order and words. A sheet is the list of its bytes.
 use Rattle.std.specs.Prelude.{ℕ, ◌+◌, ◌*◌, min, ◌&&◌, List, length, take, drop, leb, eqb}
 use Rattle.basis.specs.Bytes.{word_at}
-use Rattle.sections.specs.Verdict.{◌then◌, told}
-use Rattle.sections.specs.declared.verdict.Verdict.{Verdict}
-use Rattle.sections.specs.declared.verdict.Verdict.TheVariants.{Length, Count}
+use Rattle.sections.specs.Verdict.{Verdict, ◌then◌, told}
+use Rattle.sections.specs.declared.verdict.SheetError.TheVariants.{Length, Count}
 
 -- Sections stand each after its count; counts are two bytes.
 abbrev pub count_of : List ℕ → ℕ

@@ -1,5 +1,5 @@
 // The sheet's sections: levels, fields, constants, nodes, each after its count. A section reader reads each from where the one before ended.
-// The parameters are plain, so that callers know nothing of the reader. Every function takes any bytes.
+// Callers see the parts of a sheet and know nothing of the reader. Every function takes any bytes.
 #![tactic(auto)]
 
 mod reader;
@@ -9,66 +9,69 @@ pub mod verdict;
 ghost use Rattle.std.specs.Prelude.{◌≡◌};
 ghost use Rattle.sections.specs.Sections.{sections_verdict, levels_of, fields_of, constants_of, nodes_of};
 
-use reader::{after, entries, judge, judge_end, start};
-use verdict::{Verdict, in_order};
+use reader::SectionReader;
+use section::Section;
+use verdict::SheetError;
 
-// The bytes of an entry.
-const LEVEL: u8 = 2;
+const LEVELS: Section = Section {
+    size: 2,
+    least: 1,
+    most: 16,
+};
 
-const FIELD: u8 = 8;
+const FIELDS: Section = Section {
+    size: 8,
+    least: 1,
+    most: 64,
+};
 
-const CONSTANT: u8 = 4;
+const CONSTANTS: Section = Section {
+    size: 4,
+    least: 0,
+    most: 256,
+};
 
-const NODE: u8 = 8;
+const NODES: Section = Section {
+    size: 8,
+    least: 1,
+    most: 1024,
+};
 
-// Judges all sections in byte order.
-pub fn judge_sections(sheet: &[u8]) -> Verdict
+/// Judges all sections in byte order.
+pub fn judge_sections(sheet: &[u8]) -> Result<(), SheetError>
     ensures { result ≡ sections_verdict sheet.now }
 {
-    let levels = start(sheet);
-    let fields = after(levels, LEVEL);
-    let constants = after(fields, FIELD);
-    let nodes = after(constants, CONSTANT);
-    let end = after(nodes, NODE);
-    in_order(
-        judge(levels, LEVEL, 1, 16),
-        in_order(
-            judge(fields, FIELD, 1, 64),
-            in_order(
-                judge(constants, CONSTANT, 0, 256),
-                in_order(judge(nodes, NODE, 1, 1024), judge_end(end)),
-            ),
-        ),
-    )
+    let mut reader = SectionReader::new(sheet);
+    reader.judge(LEVELS)?;
+    reader.judge(FIELDS)?;
+    reader.judge(CONSTANTS)?;
+    reader.judge(NODES)?;
+    reader.judge_end()
 }
 
-// The order rows.
-pub fn levels(sheet: &[u8]) -> &[u8]
-    ensures { result.now ≡ levels_of sheet.now }
-{
-    entries(start(sheet), LEVEL)
+/// A sheet taken apart: the order rows, the fields' names, the constants and the nodes.
+#[derive(Clone, Copy)]
+pub struct Parts<'a> {
+    pub levels: &'a [u8],
+    pub fields: &'a [u8],
+    pub constants: &'a [u8],
+    pub nodes: &'a [u8],
 }
 
-// The fields' names.
-pub fn fields(sheet: &[u8]) -> &[u8]
-    ensures { result.now ≡ fields_of sheet.now }
-{
-    entries(after(start(sheet), LEVEL), FIELD)
-}
-
-// The constants.
-pub fn constants(sheet: &[u8]) -> &[u8]
-    ensures { result.now ≡ constants_of sheet.now }
-{
-    entries(after(after(start(sheet), LEVEL), FIELD), CONSTANT)
-}
-
-// The nodes.
-pub fn nodes(sheet: &[u8]) -> &[u8]
-    ensures { result.now ≡ nodes_of sheet.now }
-{
-    entries(
-        after(after(after(start(sheet), LEVEL), FIELD), CONSTANT),
-        NODE,
-    )
+impl<'a> Parts<'a> {
+    /// Takes any sheet apart: a section that is cut has the part that is there.
+    pub fn of(sheet: &'a [u8]) -> Parts<'a>
+        ensures levels { result.levels.now ≡ levels_of sheet.now }
+        ensures fields { result.fields.now ≡ fields_of sheet.now }
+        ensures constants { result.constants.now ≡ constants_of sheet.now }
+        ensures nodes { result.nodes.now ≡ nodes_of sheet.now }
+    {
+        let mut reader = SectionReader::new(sheet);
+        Parts {
+            levels: reader.entries(LEVELS),
+            fields: reader.entries(FIELDS),
+            constants: reader.entries(CONSTANTS),
+            nodes: reader.entries(NODES),
+        }
+    }
 }

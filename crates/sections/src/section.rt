@@ -2,21 +2,24 @@
 // in the middle, and a section read hands back the part that holds its entries. Every function takes any bytes and any offset: where the sheet
 // ends too soon, its end stands for the offset after.
 ghost use Rattle.std.specs.Prelude.{◌≡◌, ◌≤◌, min, length, drop};
-ghost use Rattle.sections.specs.Sections.{section_end, entries_of, section_verdict, end_verdict, offset_after};
+ghost use Rattle.sections.specs.Sections.{section_end, entries_of, section_verdict, offset_after};
 
-use crate::verdict::Verdict;
+use crate::verdict::SheetError;
 use basis::word;
 
-// The rest of the sheet from an offset on.
-fn rest_at(sheet: &[u8], at: usize) -> &[u8]
+/// What stands in a section: the bytes of an entry, and how many entries there may be.
+#[derive(Clone, Copy)]
+pub struct Section {
+    pub size: u8,
+    pub least: u32,
+    pub most: u32,
+}
+
+/// The rest of the sheet from an offset on.
+pub fn rest_at(sheet: &[u8], at: usize) -> &[u8]
     ensures { result.now ≡ drop at sheet.now }
 {
-    let end = sheet.len();
-    if at <= end {
-        &sheet[at..]
-    } else {
-        &sheet[end..]
-    }
+    &sheet[at.min(sheet.len())..]
 }
 
 // Where the section at the front of the rest ends, by its count.
@@ -35,52 +38,35 @@ fn part_end(rest: &[u8], size: u8) -> usize
     if len < 2 {
         return len;
     }
-    let end = section_end(rest, size);
-    if end <= len { end } else { len }
+    section_end(rest, size).min(len)
 }
 
-// The part that the section at the front of the rest covers: its entries without the count.
-fn entries(rest: &[u8], size: u8) -> &[u8]
+/// The part that the section at the front of the rest covers: its entries without the count.
+pub fn entries(rest: &[u8], size: u8) -> &[u8]
     ensures { result.now ≡ entries_of size rest.now }
 {
     let end = part_end(rest, size);
-    if end < 2 { &rest[end..] } else { &rest[2..end] }
+    &rest[end.min(2)..end]
 }
 
-// Judges the section at the front of the rest: its count, the count's limits, its entries.
-fn judge_section(rest: &[u8], size: u8, least: u32, most: u32) -> Verdict
-    ensures { result ≡ section_verdict size least most rest.now }
+/// Judges the section at the front of the rest: its count, the count's limits, its entries.
+pub fn judge(rest: &[u8], section: Section) -> Result<(), SheetError>
+    ensures { result ≡ section_verdict section.size section.least section.most rest.now }
 {
     if rest.len() < 2 {
-        return Verdict::Length;
+        return Err(SheetError::Length);
     }
     let count = word(rest, 0);
-    if count < least {
-        return Verdict::Count;
+    if count < section.least || section.most < count {
+        return Err(SheetError::Count);
     }
-    if most < count {
-        return Verdict::Count;
+    if rest.len() < section_end(rest, section.size) {
+        return Err(SheetError::Length);
     }
-    if section_end(rest, size) <= rest.len() {
-        Verdict::Passes
-    } else {
-        Verdict::Length
-    }
+    Ok(())
 }
 
-// The section at an offset judged, its entries, and the offset after it.
-pub fn judge_at(sheet: &[u8], at: usize, size: u8, least: u32, most: u32) -> Verdict
-    ensures { result ≡ section_verdict size least most (drop at sheet.now) }
-{
-    judge_section(rest_at(sheet, at), size, least, most)
-}
-
-pub fn entries_at(sheet: &[u8], at: usize, size: u8) -> &[u8]
-    ensures { result.now ≡ entries_of size (drop at sheet.now) }
-{
-    entries(rest_at(sheet, at), size)
-}
-
+/// The offset after the section at an offset.
 pub fn offset_after(sheet: &[u8], at: usize, size: u8) -> usize
     ensures { result ≡ offset_after sheet.now at size }
 {
@@ -89,15 +75,4 @@ pub fn offset_after(sheet: &[u8], at: usize, size: u8) -> usize
         return len;
     }
     at + part_end(rest_at(sheet, at), size)
-}
-
-// Judges what is left after the last section: nothing may be.
-pub fn judge_end(sheet: &[u8], at: usize) -> Verdict
-    ensures { result ≡ end_verdict (drop at sheet.now) }
-{
-    if rest_at(sheet, at).len() == 0 {
-        Verdict::Passes
-    } else {
-        Verdict::Length
-    }
 }

@@ -1,94 +1,78 @@
-// What load answers. `specs/Verdict` gives each case its number in document 01's table.
+// What load refuses a sheet with. `specs/Verdict` gives each case its number in document 01's table.
 ghost use Rattle.std.specs.Prelude.{◌≡◌};
-ghost use Rattle.sections.specs.Verdict.{fault_number, verdict_number, verdict_place, passes_of, ◌then◌};
+ghost use Rattle.sections.specs.Verdict.{fault_number, error_number, error_place};
 
 use basis::numbers;
 
-#[derive(Clone, Copy)]
-pub enum Verdict {
-    Passes,
-    // the sheet ends too soon or has bytes left
+/// The first thing that is wrong with a sheet.
+#[derive(Clone, Copy, Debug, PartialEq, Eq)]
+pub enum SheetError {
+    /// the sheet ends too soon or has bytes left
     Length,
-    // a count outside its limits
+    /// a count outside its limits
     Count,
-    // levels not as they must be
+    /// levels not as they must be
     Levels,
-    // a bad or repeated name
+    /// a bad or repeated name
     Name,
-    // the lowest node at fault, and the first of its faults
+    /// the lowest node at fault, and the first of its faults
     Node(Fault, usize),
-    // a node not used once, or the last not a command
+    /// a node not used once, or the last not a command
     Uses,
-    // depth over 64
+    /// depth over 64
     Depth,
 }
 
-// What is wrong with a node, in the order in which it is told.
-#[derive(Clone, Copy)]
+/// What is wrong with a node, in the order in which it is told.
+#[derive(Clone, Copy, Debug, PartialEq, Eq)]
 pub enum Fault {
-    // a kind or an operator that is not known
+    /// a kind or an operator that is not known
     Unknown,
-    // an unused place, or the operator byte in a kind without one, that is not 0
+    /// an unused place, or the operator byte in a kind without one, that is not 0
     Unused,
-    // a child or index number that is out of range or not lower
+    /// a child or index number that is out of range or not lower
     Range,
-    // a child of the wrong sort
+    /// a child of the wrong sort
     Sort,
 }
 
-// The number of a node's fault.
-fn fault_number(fault: Fault) -> u8
-    ensures { result ≡ fault_number fault }
-{
-    match fault {
-        Fault::Unknown => numbers::NODE_UNKNOWN,
-        Fault::Unused => numbers::NODE_UNUSED,
-        Fault::Range => numbers::NODE_RANGE,
-        Fault::Sort => numbers::NODE_SORT,
+impl Fault {
+    /// Its number in document 01's table.
+    pub fn number(self) -> u8
+        ensures { result ≡ fault_number self }
+    {
+        match self {
+            Fault::Unknown => numbers::NODE_UNKNOWN,
+            Fault::Unused => numbers::NODE_UNUSED,
+            Fault::Range => numbers::NODE_RANGE,
+            Fault::Sort => numbers::NODE_SORT,
+        }
     }
 }
 
-// The number of a verdict in document 01's table.
-pub fn number(v: Verdict) -> u8
-    ensures { result ≡ verdict_number v }
-{
-    match v {
-        Verdict::Passes => numbers::DONE,
-        Verdict::Length => numbers::SHEET_LENGTH,
-        Verdict::Count => numbers::COUNT_OUTSIDE,
-        Verdict::Levels => numbers::LEVELS_WRONG,
-        Verdict::Name => numbers::NAME_WRONG,
-        Verdict::Node(fault, _) => fault_number(fault),
-        Verdict::Uses => numbers::NOT_USED_ONCE,
-        Verdict::Depth => numbers::TOO_DEEP,
+impl SheetError {
+    /// Its number in document 01's table.
+    pub fn number(self) -> u8
+        ensures { result ≡ error_number self }
+    {
+        match self {
+            SheetError::Length => numbers::SHEET_LENGTH,
+            SheetError::Count => numbers::COUNT_OUTSIDE,
+            SheetError::Levels => numbers::LEVELS_WRONG,
+            SheetError::Name => numbers::NAME_WRONG,
+            SheetError::Node(fault, _) => fault.number(),
+            SheetError::Uses => numbers::NOT_USED_ONCE,
+            SheetError::Depth => numbers::TOO_DEEP,
+        }
     }
-}
 
-// Its place: that of a node's fault is the node's number.
-pub fn place(v: Verdict) -> usize
-    ensures { result ≡ verdict_place v }
-{
-    match v {
-        Verdict::Passes => 0,
-        Verdict::Length => 0,
-        Verdict::Count => 0,
-        Verdict::Levels => 0,
-        Verdict::Name => 0,
-        Verdict::Node(_, n) => n,
-        Verdict::Uses => 0,
-        Verdict::Depth => 0,
+    /// Its place: that of a node's fault is the node's number.
+    pub fn place(self) -> usize
+        ensures { result ≡ error_place self }
+    {
+        match self {
+            SheetError::Node(_, n) => n,
+            _ => 0,
+        }
     }
-}
-
-pub fn passes(v: Verdict) -> bool
-    ensures { result ≡ passes_of v }
-{
-    number(v) == numbers::DONE
-}
-
-// The first of two checks that refuses.
-pub fn in_order(first: Verdict, next: Verdict) -> Verdict
-    ensures { result ≡ first then next }
-{
-    if passes(first) { next } else { first }
 }

@@ -3,15 +3,14 @@ use Rattle.std.specs.Prelude.{ℕ, ◌-◌, ◌/◌, ◌&&◌, List, length, leb
 use Rattle.levels.specs.Levels.{right}
 use Rattle.levels.specs.Lattice.{ordering}
 use Rattle.value.specs.Bytes.{of_bits}
-use Rattle.sections.specs.Verdict.{◌then◌, told}
+use Rattle.sections.specs.Verdict.{Verdict, ◌then◌, told}
 use Rattle.sections.specs.Sections.{section_end, entries_of, section_verdict, offset_after, sections_verdict, levels_of, fields_of, constants_of, nodes_of}
 use Rattle.names.specs.Names.{is_inner, may_follow, good_name, same_name, new_name, names_right}
 use Rattle.nodes.specs.Nodes.{node_count, kind_at, kinds, held_in, known, operator_zero, slot_right, slots_right, node_verdict, verdict_below, nodes_verdict}
 use Rattle.sheet.specs.Trees.{Cmd, lower, exp_node, exp_below, exp_at, cmd_node, cmd_below, cmd_at}
 use Rattle.nodes.specs.Uses.{uses_in, uses_below, used_once}
 use Rattle.sheet.specs.Depth.{exp_depth, cmd_depth}
-use Rattle.sections.specs.declared.verdict.Verdict.{Verdict}
-use Rattle.sections.specs.declared.verdict.Verdict.TheVariants.{Levels, Name, Uses, Depth}
+use Rattle.sections.specs.declared.verdict.SheetError.TheVariants.{Levels, Name, Uses, Depth}
 
 abbrev pub field_count : List ℕ → ℕ
 field_count sheet = length (fields_of sheet) / 8

@@ -7,40 +7,37 @@ ghost use Rattle.std.specs.Prelude.{◌≡◌};
 ghost use Rattle.sheet.specs.Load.{load_of};
 
 use nodes::uses;
-use sections::verdict::{Verdict, passes};
+use sections::Parts;
+use sections::verdict::SheetError;
 
-// Judges a sheet: the first check that refuses it, or none.
-pub fn load(sheet: &[u8]) -> Verdict
+/// Judges a sheet: the first check that refuses it, or none.
+pub fn load(sheet: &[u8]) -> Result<(), SheetError>
     ensures { result ≡ load_of sheet.now }
 {
-    let layout = sections::judge_sections(sheet);
-    if !passes(layout) {
-        return layout;
+    sections::judge_sections(sheet)?;
+    let parts = Parts::of(sheet);
+    if !levels::right(parts.levels) {
+        return Err(SheetError::Levels);
     }
-    if !levels::right(sections::levels(sheet)) {
-        return Verdict::Levels;
+    if !names::names_right(parts.fields) {
+        return Err(SheetError::Name);
     }
-    let fields = sections::fields(sheet);
-    if !names::names_right(fields) {
-        return Verdict::Name;
-    }
-    let constants = sections::constants(sheet);
-    let nodes = sections::nodes(sheet);
     let mut used = [0u8; 1024];
-    let faults = nodes::judge_nodes(nodes, fields.len() / 8, constants.len() / 4, &mut used);
-    if !passes(faults) {
-        return faults;
-    }
-    let last = nodes.len() / 8 - 1;
+    nodes::judge_nodes(
+        parts.nodes,
+        parts.fields.len() / 8,
+        parts.constants.len() / 4,
+        &mut used,
+    )?;
+    let last = parts.nodes.len() / 8 - 1;
     if !uses::all_once(&used, last) {
-        return Verdict::Uses;
+        return Err(SheetError::Uses);
     }
-    if nodes::kind_of(nodes, last) <= 4 {
-        return Verdict::Uses;
+    if nodes::kind_of(parts.nodes, last) <= 4 {
+        return Err(SheetError::Uses);
     }
-    if depth::fits(&nodes, last, 64) {
-        Verdict::Passes
-    } else {
-        Verdict::Depth
+    if !depth::fits(&parts.nodes, last, 64) {
+        return Err(SheetError::Depth);
     }
+    Ok(())
 }

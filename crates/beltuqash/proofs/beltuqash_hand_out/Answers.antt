@@ -23,7 +23,7 @@ give-requires c =
     let checks = hand_out_checks a.sheet.now a.store.now a.reader a.request.now (length a.out.now) in
     let hold = all_hold_lem checks (hand_out_numbered a.sheet.now a.store.now a.reader a.request.now (length a.out.now)) (ap (λ (x : Answer). x.number) (sym c.judge_hand_out-refused.ensures) ∙ c.if-refused-ne-DONE.false) in
     let (requested, room, none) = hand_out_holds a.sheet.now a.store.now a.reader a.request.now (length a.out.now) hold in
-    rw c.levels.ensures (record { asks_as = asks_as requested; none-refuses = none; room = room })
+    rw c.of.ensures.levels (record { asks_as = asks_as requested; none-refuses = none; room = room })
 
 pub shape_of-out : goal.shape_of-out
 shape_of-out c = c.give.auto.out
@@ -34,4 +34,4 @@ returns-clause-yields c =
     let a = c.args in
     let checks = hand_out_checks a.sheet.now a.store.now a.reader a.request.now (length a.out.now) in
     let hold = all_hold_lem checks (hand_out_numbered a.sheet.now a.store.now a.reader a.request.now (length a.out.now)) (ap (λ (x : Answer). x.number) (sym c.judge_hand_out-refused.ensures) ∙ c.if-refused-ne-DONE.false) in
-    rw (goes_on checks _ _ hold) (c.pack-2.ensures ∙ ap word_of c.success.ensures, rw c.levels.ensures at c.give.ensures)
+    rw (goes_on checks _ _ hold) (c.pack-2.ensures ∙ ap word_of c.success.ensures, rw c.of.ensures.levels at c.give.ensures)

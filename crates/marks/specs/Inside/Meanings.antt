@@ -9,7 +9,7 @@ use Rattle.rules.specs.LevelMarks.{marking}
 use Rattle.store.specs.Marks.{Mark, mode_of, mark_of, mark_known}
 use Rattle.marks.specs.Inside.Words.{Half, Below, Place, Answers}
 use Rattle.marks.specs.Inside.Modes.{mode_in}
-use Rattle.marks.specs.declared.parts.Parts.{Parts}
+use Rattle.sections.specs.declared.Parts.{Parts}
 use Rattle.marks.specs.declared.Run.{Run}
 
 pub record Meaning : Type 1 where

@@ -1,7 +1,6 @@
 -- How the code counts uses: up to two, in an array. Only contracts inside this crate cite it.
-use Rattle.std.specs.Prelude.{ℕ, zero, suc, ◌≡◌, Bool, true, cond, ◌&&◌, List, get_or, set, eqb, ltb}
-use Rattle.sections.specs.Verdict.{passes_of}
-use Rattle.sections.specs.declared.verdict.Verdict.{Verdict}
+use Rattle.std.specs.Prelude.{ℕ, zero, suc, ◌≡◌, Bool, true, cond, ◌&&◌, List, get_or, set, eqb, ltb, is_ok}
+use Rattle.sections.specs.Verdict.{Verdict}
 use Rattle.nodes.specs.declared.Held.{Held}
 use Rattle.nodes.specs.Nodes.{node_count, kind_at, slot_at, held_in, is_child, of_sort, node_verdict, nodes_verdict}
 use Rattle.nodes.specs.Uses.{uses_below}
@@ -31,8 +30,8 @@ TakesChild s n w held used after r = (r ≡ (ltb w n && of_sort held (kind_at s 
 
 -- node n is free of every fault, and its children are counted
 abbrev pub TakesNode : List ℕ → ℕ → ℕ → ℕ → List ℕ → List ℕ → Bool → Type 0
-TakesNode s fields constants n used after r = (r ≡ passes_of (node_verdict s fields constants n)) × (r ≡ true → after ≡ counted_slots s n 3 used)
+TakesNode s fields constants n used after r = (r ≡ is_ok (node_verdict s fields constants n)) × (r ≡ true → after ≡ counted_slots s n 3 used)
 
 -- all nodes are judged, and their children counted where they pass
 abbrev pub Judges : List ℕ → ℕ → ℕ → List ℕ → Verdict → Type 0
-Judges s fields constants after v = (v ≡ nodes_verdict s fields constants) × (passes_of v ≡ true → Counts s (node_count s) after)
+Judges s fields constants after v = (v ≡ nodes_verdict s fields constants) × (is_ok v ≡ true → Counts s (node_count s) after)

@@ -18,7 +18,7 @@ returns c =
     rw (c.sheet-sheet.ensures, c.store-store.ensures, c.mode-mode.ensures, c.fuel-fuel.ensures) in
     let answers : Yields (outcome_of f) c.beltuqash_run-word.result c.beltuqash_run-word.new.out = rw (← ran) c.beltuqash_run-word.ensures.yields in
     let answer_is : c.unpack.result ≡ (outcome_of f).answer = rw (c.unpack.ensures, answers.0) (answer-told _) in
-    let fields_are = c.fields.ensures ∙ ap fields_of c.sheet-sheet.ensures in
+    let fields_are = c.of.ensures.fields ∙ ap fields_of c.sheet-sheet.ensures in
     begins_as (rw (answer_is, fields_are, answers.1)) c.print.ensures
 
 pub print-requires : goal.print-requires
@@ -29,9 +29,9 @@ print-requires c =
     rw (c.sheet-sheet.ensures, c.store-store.ensures, c.mode-mode.ensures, c.fuel-fuel.ensures) in
     let answers : Yields (outcome_of f) c.beltuqash_run-word.result c.beltuqash_run-word.new.out = rw (← ran) c.beltuqash_run-word.ensures.yields in
     let answer_is : c.unpack.result ≡ (outcome_of f).answer = rw (c.unpack.ensures, answers.0) (answer-told _) in
-    let fields_are = c.fields.ensures ∙ ap fields_of c.sheet-sheet.ensures in (
+    let fields_are = c.of.ensures.fields ∙ ap fields_of c.sheet-sheet.ensures in (
       (λ done.
-          let few : length c.fields.result.now ≤ 512 = rw fields_are (done-fields _ (rw answer_is at done)) in
+          let few : length c.of.result.fields.now ≤ 512 = rw fields_are (done-fields _ (rw answer_is at done)) in
           record { few = few; entries = omega (arith, c.beltuqash_run-word.auto) }),
       c.requires.1,
     )

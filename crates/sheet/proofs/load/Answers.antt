@@ -1,177 +1,103 @@
 -- Each return has the checks that lead to it, and each check speaks of the sheet's own section.
-use Prim.Native.Nat.{ℕ, ◌≤◌, ◌/◌}
-use native.Mathlib.Omega.{arith}
-use mathlib.Core.Path.{◌≡◌, sym, ap, ◌∙◌}
-use mathlib.Core.Bool.{Bool, true}
-use mathlib.Core.List.{List}
+use Rattle.std.proofs.Common.{ℕ, ◌≡◌, ◌≤◌, ◌<◌, length, true, refl, sym, ap, ◌∙◌, arith}
+use Rattle.std.proofs.lemmas.Result.{err_from_is_err_and}
 use borrow.Author.Tests.{le-ltb, lt-ltb}
 use lib.Dec.{leb}
-use lib.ListN.{length}
-use Rattle.levels.specs.Levels.{right}
-use Rattle.sections.specs.Verdict.{passes_of}
-use Rattle.sections.specs.Sections.{levels_of, fields_of, constants_of, nodes_of, sections_verdict}
-use Rattle.names.specs.Names.{names_right}
-use Rattle.nodes.specs.Nodes.{In, node_count, nodes_verdict}
+use Rattle.sections.specs.Sections.{constants_of, nodes_of}
+use Rattle.nodes.specs.Nodes.{In, node_count, kind_at}
 use Rattle.nodes.specs.Uses.{used_once}
-use Rattle.sheet.specs.Load.{field_count, constant_count, last_of}
-use Rattle.sections.specs.declared.verdict.Verdict.{Verdict}
-use Rattle.sections.specs.declared.verdict.Verdict.TheVariants.{Passes}
-use Rattle.sections.proofs.Verdicts.{passes-is}
+use Rattle.sheet.specs.Load.{last_of, program_of}
+use Rattle.sheet.specs.Depth.{cmd_depth}
+use Rattle.sheet.specs.Inside.Depth.{depth_at}
 use Rattle.sheet.proofs.Depths.{cmd_depth_lem}
 use Rattle.nodes.proofs.Counted.{all-counted, zeros}
 use Rattle.sheet.proofs.Loading.{nodes-length, NodesPass, layout_told, levels-told, names-told, nodes-told, unused_told, expression_told, depth-told, none_told, formed}
 use Rattle.sheet.proofs.load.Goals as goal
+use Rattle.sheet.proofs.load.Goals.{In_ok-judge_nodes, Else-not-all_once, Else-kind_of-le4}
 
--- what each check answered is said of the sheet, for the part that the code read
-module _ (s : List ℕ) where
-  layout : {v : Verdict} {r : Bool} → v ≡ sections_verdict s → r ≡ passes_of v → r ≡ true → sections_verdict s ≡ Passes
-  layout is told passed = sym is ∙ passes-is _ (sym told ∙ passed)
+-- the checks up to the nodes have passed
+passed : (c : In_ok-judge_nodes) → NodesPass c.args.sheet.now
+passed c = record {
+  layout = sym c.in_ok-judge_sections.ensures;
+  levels = rw c.of-parts.ensures.levels at (sym c.if-not-right.ensures);
+  names = rw c.of-parts.ensures.fields at (sym c.if-not-names_right.ensures);
+  nodes = sym (rw (c.of-parts.ensures.nodes, c.of-parts.ensures.constants, c.of-parts.ensures.fields) at c.in_ok-judge_nodes.ensures.0);
+}
 
-  levels : {part : List ℕ} {r : Bool} → part ≡ levels_of s → r ≡ right part → right (levels_of s) ≡ r
-  levels is told = sym (told ∙ ap right is)
+-- the nodes' part has a last node
+last_in : (c : In_ok-judge_nodes) → (1 ≤ node_count c.of-parts.result.nodes.now) × In c.of-parts.result.nodes.now (last_of c.of-parts.result.nodes.now) × (node_count c.of-parts.result.nodes.now ≤ 1024)
+last_in c =
+    let some : 8 ≤ length c.of-parts.result.nodes.now = rw c.of-parts.ensures.nodes (formed _ (passed c)).some-node in
+    let few : length c.of-parts.result.nodes.now ≤ 8192 = rw c.of-parts.ensures.nodes (formed _ (passed c)).few in
+    (omega arith, omega arith, omega arith)
 
-  names : {part : List ℕ} {r : Bool} → part ≡ fields_of s → r ≡ names_right part → names_right (fields_of s) ≡ r
-  names is told = sym (told ∙ ap names_right is)
+-- each node but the last is a child once, and the last is a command
+once : (c : Else-not-all_once) → used_once (nodes_of c.args.sheet.now) ≡ true
+once c = sym (c.if-not-all_once.ensures ∙ all-counted (c.in_ok-judge_nodes.ensures.1 refl) ∙ ap used_once c.of-parts.ensures.nodes)
 
-  nodes : {fields constants nodes : List ℕ} {v : Verdict} → fields ≡ fields_of s → constants ≡ constants_of s → nodes ≡ nodes_of s
-      → v ≡ nodes_verdict nodes (length fields / 8) (length constants / 4) → v ≡ nodes_verdict (nodes_of s) (field_count s) (constant_count s)
-  nodes f c n told = rw (n, c, f) at told
+command : (c : Else-kind_of-le4) → 4 < kind_at (nodes_of c.args.sheet.now) (last_of (nodes_of c.args.sheet.now))
+command c = rw (rw c.of-parts.ensures.nodes at c.kind_of.ensures) at c.if-kind_of-le4.false
 
-  nodes_pass : {v w : Verdict} {rows fields constants part : List ℕ} {p q r t : Bool} → v ≡ sections_verdict s → p ≡ passes_of v → p ≡ true
-      → rows ≡ levels_of s → q ≡ right rows → q ≡ true → fields ≡ fields_of s → r ≡ names_right fields → r ≡ true → constants ≡ constants_of s → part ≡ nodes_of s
-      → w ≡ nodes_verdict part (length fields / 8) (length constants / 4) → t ≡ passes_of w → t ≡ true → NodesPass s
-  nodes_pass v p passes rows q good f r named c n w t faultless =
-      record {
-        layout = layout v p passes;
-        levels = levels rows q ∙ good;
-        names = names f r ∙ named;
-        nodes = sym (nodes f c n w) ∙ passes-is _ (sym t ∙ faultless);
-      }
+-- how deep the last node's tree is
+depth_is : (c : Else-kind_of-le4) → leb (depth_at (constants_of c.args.sheet.now) (nodes_of c.args.sheet.now) (last_of (nodes_of c.args.sheet.now))) 64 ≡ leb (cmd_depth (program_of c.args.sheet.now)) 64
+depth_is c = ap (λ (depth : ℕ). leb depth 64) (cmd_depth_lem _ _ _ (command c))
 
-  -- the nodes' part, with a last node
-  last_in : NodesPass s → {nodes : List ℕ} → nodes ≡ nodes_of s → (1 ≤ node_count nodes) × In nodes (last_of nodes) × (node_count nodes ≤ 1024)
-  last_in p {nodes} is =
-      let some : 8 ≤ length nodes = rw is (formed _ p).some-node in
-      let few : length nodes ≤ 8192 = rw is (formed _ p).few in
-      (omega arith, omega arith, omega arith)
-
-pub returns-then-not-passes : goal.returns-then-not-passes
-returns-then-not-passes c =
-    let s = c.args.sheet.now in
-    let is = c.judge_sections-layout.ensures in
-    is ∙ layout_told s (ap passes_of (sym is) ∙ sym c.passes.ensures ∙ c.if-not-passes.true)
+pub returns-in_err-judge_sections : goal.returns-in_err-judge_sections
+returns-in_err-judge_sections c =
+    let p = err_from_is_err_and c.from_residual.result c.from_residual.ensures.1 in
+    rw (p.1, p.2) (layout_told _ (sym c.in_err-judge_sections.ensures))
 
 pub returns-then-not-right : goal.returns-then-not-right
-returns-then-not-right c =
-    let s = c.args.sheet.now in
-    let layout_passes = layout s c.judge_sections-layout.ensures c.passes.ensures c.if-not-passes.false in
-    let levels_are = levels s c.levels.ensures c.right.ensures in
-    levels-told s layout_passes (levels_are ∙ c.if-not-right.true)
+returns-then-not-right c = levels-told _ (sym c.in_ok-judge_sections.ensures) (rw c.of-parts.ensures.levels at (sym c.if-not-right.ensures))
 
 pub returns-then-not-names_right : goal.returns-then-not-names_right
 returns-then-not-names_right c =
-    let s = c.args.sheet.now in
-    let layout_passes = layout s c.judge_sections-layout.ensures c.passes.ensures c.if-not-passes.false in
-    let levels_are = levels s c.levels.ensures c.right.ensures in
-    let names_are = names s c.fields-fields.ensures c.names_right.ensures in
-    names-told s layout_passes (levels_are ∙ c.if-not-right.false) (names_are ∙ c.if-not-names_right.true)
+    names-told _ (sym c.in_ok-judge_sections.ensures) (rw c.of-parts.ensures.levels at (sym c.if-not-right.ensures)) (rw c.of-parts.ensures.fields at (sym c.if-not-names_right.ensures))
 
-pub judge_nodes-faults-requires : goal.judge_nodes-faults-requires
-judge_nodes-faults-requires c =
-    let s = c.args.sheet.now in
-    let layout_passes = layout s c.judge_sections-layout.ensures c.passes.ensures c.if-not-passes.false in
-    let few : length c.nodes-nodes.result.now ≤ 8192 = rw c.nodes-nodes.ensures (nodes-length s layout_passes).1 in
+pub judge_nodes-requires : goal.judge_nodes-requires
+judge_nodes-requires c =
+    let few : length c.of-parts.result.nodes.now ≤ 8192 = rw c.of-parts.ensures.nodes (nodes-length _ (sym c.in_ok-judge_sections.ensures)).1 in
     (omega arith, zeros 1024)
 
-pub returns-then-not-passes-2 : goal.returns-then-not-passes-2
-returns-then-not-passes-2 c =
-    let s = c.args.sheet.now in
-    let layout_passes = layout s c.judge_sections-layout.ensures c.passes.ensures c.if-not-passes.false in
-    let levels_are = levels s c.levels.ensures c.right.ensures in
-    let names_are = names s c.fields-fields.ensures c.names_right.ensures in
-    let nodes_are = nodes s c.fields-fields.ensures c.constants-constants.ensures c.nodes-nodes.ensures c.judge_nodes-faults.ensures.0 in
-    let refuses = ap passes_of (sym nodes_are) ∙ sym c.passes-2.ensures ∙ c.if-not-passes-2.true in
-    nodes_are ∙ nodes-told s layout_passes (levels_are ∙ c.if-not-right.false) (names_are ∙ c.if-not-names_right.false) refuses
+pub returns-in_err-judge_nodes : goal.returns-in_err-judge_nodes
+returns-in_err-judge_nodes c =
+    let told = sym (rw (c.of-parts.ensures.nodes, c.of-parts.ensures.constants, c.of-parts.ensures.fields) at c.in_err-judge_nodes.ensures.0) in
+    let p = err_from_is_err_and c.from_residual-in_err-judge_nodes.result c.from_residual-in_err-judge_nodes.ensures.1 in
+    rw (p.1, p.2)
+    (nodes-told _ (sym c.in_ok-judge_sections.ensures) (rw c.of-parts.ensures.levels at (sym c.if-not-right.ensures)) (rw c.of-parts.ensures.fields at (sym c.if-not-names_right.ensures)) told)
 
 pub overflow_sub-last : goal.overflow_sub-last
-overflow_sub-last c =
-    let s = c.args.sheet.now in
-    let passed = nodes_pass s c.judge_sections-layout.ensures c.passes.ensures c.if-not-passes.false c.levels.ensures c.right.ensures c.if-not-right.false
-    c.fields-fields.ensures c.names_right.ensures c.if-not-names_right.false c.constants-constants.ensures c.nodes-nodes.ensures
-    c.judge_nodes-faults.ensures.0 c.passes-2.ensures c.if-not-passes-2.false in
-    let last = last_in s passed c.nodes-nodes.ensures in
-    last.0
+overflow_sub-last c = (last_in (goal.at.overflow_sub-last c).In_ok-judge_nodes).0
 
 pub all_once-requires : goal.all_once-requires
-all_once-requires c =
-    let s = c.args.sheet.now in
-    let passed = nodes_pass s c.judge_sections-layout.ensures c.passes.ensures c.if-not-passes.false c.levels.ensures c.right.ensures c.if-not-right.false
-    c.fields-fields.ensures c.names_right.ensures c.if-not-names_right.false c.constants-constants.ensures c.nodes-nodes.ensures
-    c.judge_nodes-faults.ensures.0 c.passes-2.ensures c.if-not-passes-2.false in
-    let last = last_in s passed c.nodes-nodes.ensures in
-    omega (arith, last.2)
+all_once-requires c = omega (arith, (last_in (goal.at.all_once-requires c).In_ok-judge_nodes).2)
 
 pub returns-then-not-all_once : goal.returns-then-not-all_once
 returns-then-not-all_once c =
-    let s = c.args.sheet.now in
-    let faultless = sym c.passes-2.ensures ∙ c.if-not-passes-2.false in
-    let passed = nodes_pass s c.judge_sections-layout.ensures c.passes.ensures c.if-not-passes.false c.levels.ensures c.right.ensures c.if-not-right.false
-    c.fields-fields.ensures c.names_right.ensures c.if-not-names_right.false c.constants-constants.ensures c.nodes-nodes.ensures
-    c.judge_nodes-faults.ensures.0 c.passes-2.ensures c.if-not-passes-2.false in
-    let once = sym (c.all_once.ensures ∙ all-counted (c.judge_nodes-faults.ensures.1 faultless) ∙ ap used_once c.nodes-nodes.ensures) in
-    unused_told s passed (once ∙ c.if-not-all_once.true)
+    let once = sym (c.if-not-all_once.ensures ∙ all-counted (c.in_ok-judge_nodes.ensures.1 refl) ∙ ap used_once c.of-parts.ensures.nodes) in
+    unused_told _ (passed (goal.at.returns-then-not-all_once c).In_ok-judge_nodes) once
 
 pub kind_of-requires : goal.kind_of-requires
-kind_of-requires c =
-    let s = c.args.sheet.now in
-    let passed = nodes_pass s c.judge_sections-layout.ensures c.passes.ensures c.if-not-passes.false c.levels.ensures c.right.ensures c.if-not-right.false
-    c.fields-fields.ensures c.names_right.ensures c.if-not-names_right.false c.constants-constants.ensures c.nodes-nodes.ensures
-    c.judge_nodes-faults.ensures.0 c.passes-2.ensures c.if-not-passes-2.false in
-    let last = last_in s passed c.nodes-nodes.ensures in
-    last.1
+kind_of-requires c = (last_in (goal.at.kind_of-requires c).In_ok-judge_nodes).1
 
 pub returns-then-kind_of-le4 : goal.returns-then-kind_of-le4
 returns-then-kind_of-le4 c =
-    let s = c.args.sheet.now in
-    let faultless = sym c.passes-2.ensures ∙ c.if-not-passes-2.false in
-    let passed = nodes_pass s c.judge_sections-layout.ensures c.passes.ensures c.if-not-passes.false c.levels.ensures c.right.ensures c.if-not-right.false
-    c.fields-fields.ensures c.names_right.ensures c.if-not-names_right.false c.constants-constants.ensures c.nodes-nodes.ensures
-    c.judge_nodes-faults.ensures.0 c.passes-2.ensures c.if-not-passes-2.false in
-    let once = sym (c.all_once.ensures ∙ all-counted (c.judge_nodes-faults.ensures.1 faultless) ∙ ap used_once c.nodes-nodes.ensures) in
-    let kind_is = rw c.nodes-nodes.ensures at c.kind_of.ensures in
-    expression_told s passed (once ∙ c.if-not-all_once.false) (le-ltb 4 _ (rw kind_is at c.if-kind_of-le4.true))
+    let at = goal.at.returns-then-kind_of-le4 c in
+    expression_told _ (passed at.In_ok-judge_nodes) (once at.Else-not-all_once) (le-ltb 4 _ (rw (rw c.of-parts.ensures.nodes at c.kind_of.ensures) at c.if-kind_of-le4.true))
 
 pub fits-requires : goal.fits-requires
 fits-requires c =
-    let s = c.args.sheet.now in
-    let passed = nodes_pass s c.judge_sections-layout.ensures c.passes.ensures c.if-not-passes.false c.levels.ensures c.right.ensures c.if-not-right.false
-    c.fields-fields.ensures c.names_right.ensures c.if-not-names_right.false c.constants-constants.ensures c.nodes-nodes.ensures
-    c.judge_nodes-faults.ensures.0 c.passes-2.ensures c.if-not-passes-2.false in
-    let last = last_in s passed c.nodes-nodes.ensures in
-    record { formed = rw c.nodes-nodes.ensures (formed s passed); inside = last.1 }
+    let ok = (goal.at.fits-requires c).In_ok-judge_nodes in
+    record { formed = rw c.of-parts.ensures.nodes (formed _ (passed ok)); inside = (last_in ok).1 }
 
-pub returns-then-fits : goal.returns-then-fits
-returns-then-fits c =
-    let s = c.args.sheet.now in
-    let faultless = sym c.passes-2.ensures ∙ c.if-not-passes-2.false in
-    let passed = nodes_pass s c.judge_sections-layout.ensures c.passes.ensures c.if-not-passes.false c.levels.ensures c.right.ensures c.if-not-right.false
-    c.fields-fields.ensures c.names_right.ensures c.if-not-names_right.false c.constants-constants.ensures c.nodes-nodes.ensures
-    c.judge_nodes-faults.ensures.0 c.passes-2.ensures c.if-not-passes-2.false in
-    let once = sym (c.all_once.ensures ∙ all-counted (c.judge_nodes-faults.ensures.1 faultless) ∙ ap used_once c.nodes-nodes.ensures) in
-    let kind_is = rw c.nodes-nodes.ensures at c.kind_of.ensures in
-    let command = rw kind_is at c.if-kind_of-le4.false in
-    let depth_is = rw c.nodes-nodes.ensures at (c.fits.ensures (constants_of s)) ∙ ap (λ (depth : ℕ). leb depth 64) (cmd_depth_lem (constants_of s) (nodes_of s) (last_of (nodes_of s)) command) in
-    none_told s passed (once ∙ c.if-not-all_once.false) (lt-ltb 4 _ command) (sym depth_is ∙ c.if-fits.true)
+pub returns-then-not-fits : goal.returns-then-not-fits
+returns-then-not-fits c =
+    let at = goal.at.returns-then-not-fits c in
+    let depth = rw c.of-parts.ensures.nodes at (c.if-not-fits.ensures (constants_of c.args.sheet.now)) in
+    depth-told _ (passed at.In_ok-judge_nodes) (once at.Else-not-all_once) (lt-ltb 4 _ (command at.Else-kind_of-le4)) (sym (depth ∙ depth_is at.Else-kind_of-le4))
 
-pub returns-else-fits : goal.returns-else-fits
-returns-else-fits c =
-    let s = c.args.sheet.now in
-    let faultless = sym c.passes-2.ensures ∙ c.if-not-passes-2.false in
-    let passed = nodes_pass s c.judge_sections-layout.ensures c.passes.ensures c.if-not-passes.false c.levels.ensures c.right.ensures c.if-not-right.false
-    c.fields-fields.ensures c.names_right.ensures c.if-not-names_right.false c.constants-constants.ensures c.nodes-nodes.ensures
-    c.judge_nodes-faults.ensures.0 c.passes-2.ensures c.if-not-passes-2.false in
-    let once = sym (c.all_once.ensures ∙ all-counted (c.judge_nodes-faults.ensures.1 faultless) ∙ ap used_once c.nodes-nodes.ensures) in
-    let kind_is = rw c.nodes-nodes.ensures at c.kind_of.ensures in
-    let command = rw kind_is at c.if-kind_of-le4.false in
-    let depth_is = rw c.nodes-nodes.ensures at (c.fits.ensures (constants_of s)) ∙ ap (λ (depth : ℕ). leb depth 64) (cmd_depth_lem (constants_of s) (nodes_of s) (last_of (nodes_of s)) command) in
-    depth-told s passed (once ∙ c.if-not-all_once.false) (lt-ltb 4 _ command) (sym depth_is ∙ c.if-fits.false)
+pub returns : goal.returns
+returns c =
+    let at = goal.at.returns c in
+    let depth = rw c.of-parts.ensures.nodes at (c.if-not-fits.ensures (constants_of c.args.sheet.now)) in
+    none_told _ (passed at.In_ok-judge_nodes) (once at.Else-not-all_once) (lt-ltb 4 _ (command at.Else-kind_of-le4)) (sym (depth ∙ depth_is at.Else-kind_of-le4))

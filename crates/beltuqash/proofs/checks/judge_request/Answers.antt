@@ -31,13 +31,13 @@ pub returns-then-not-known-right : goal.returns-then-not-known-right
 unfolding tells
 returns-then-not-known-right c =
     let a = c.args in
-    rw (asked_as a.sheet.now a.request.now a.reader c.levels-rows.ensures c.fields.ensures c.right.ensures ∙ c.if-not-known-right.true) c.refusal.ensures
+    rw (asked_as a.sheet.now a.request.now a.reader c.of-parts.ensures.levels c.of-parts.ensures.fields c.right.ensures ∙ c.if-not-known-right.true) c.refusal.ensures
 
 pub length-requires : goal.length-requires
 unfolding mode_of
 length-requires c =
     let a = c.args in
-    let asked = asked_as a.sheet.now a.request.now a.reader c.levels-rows.ensures c.fields.ensures c.right.ensures ∙ c.if-not-known-right.false in
+    let asked = asked_as a.sheet.now a.request.now a.reader c.of-parts.ensures.levels c.of-parts.ensures.fields c.right.ensures ∙ c.if-not-known-right.false in
     let given = requested _ _ _ _ c.requires asked in
     omega (arith, (right_has _ _ given.right_request).size)
 
@@ -45,7 +45,7 @@ pub returns-then-room-length : goal.returns-then-room-length
 unfolding tells
 returns-then-room-length c =
     let a = c.args in
-    let asked = asked_as a.sheet.now a.request.now a.reader c.levels-rows.ensures c.fields.ensures c.right.ensures ∙ c.if-not-known-right.false in
+    let asked = asked_as a.sheet.now a.request.now a.reader c.of-parts.ensures.levels c.of-parts.ensures.fields c.right.ensures ∙ c.if-not-known-right.false in
     let short = lt-leb (answer_length a.request.now) a.room (omega (arith, c.if-room-length.true, c.length.ensures)) in
     rw (asked, short) c.refusal-then-room-length.ensures
 
@@ -53,15 +53,15 @@ pub first_refusing-first-requires : goal.first_refusing-first-requires
 unfolding mode_of
 first_refusing-first-requires c =
     let a = c.args in
-    let asked = asked_as a.sheet.now a.request.now a.reader c.levels-rows.ensures c.fields.ensures c.right.ensures ∙ c.if-not-known-right.false in
+    let asked = asked_as a.sheet.now a.request.now a.reader c.of-parts.ensures.levels c.of-parts.ensures.fields c.right.ensures ∙ c.if-not-known-right.false in
     let given = requested _ _ _ _ c.requires asked in
-    rw c.levels-rows.ensures (asks_as given)
+    rw c.of-parts.ensures.levels (asks_as given)
 
 pub count-requires : goal.count-requires
 unfolding mode_of
 count-requires c =
     let a = c.args in
-    let asked = asked_as a.sheet.now a.request.now a.reader c.levels-rows.ensures c.fields.ensures c.right.ensures ∙ c.if-not-known-right.false in
+    let asked = asked_as a.sheet.now a.request.now a.reader c.of-parts.ensures.levels c.of-parts.ensures.fields c.right.ensures ∙ c.if-not-known-right.false in
     let given = requested _ _ _ _ c.requires asked in
     omega (arith, (right_has _ _ given.right_request).size)
 
@@ -69,10 +69,10 @@ pub returns : goal.returns
 unfolding tells
 returns c =
     let a = c.args in
-    let asked = asked_as a.sheet.now a.request.now a.reader c.levels-rows.ensures c.fields.ensures c.right.ensures ∙ c.if-not-known-right.false in
+    let asked = asked_as a.sheet.now a.request.now a.reader c.of-parts.ensures.levels c.of-parts.ensures.fields c.right.ensures ∙ c.if-not-known-right.false in
     let room = le-leb (answer_length a.request.now) a.room (omega (arith, c.if-room-length.false, c.length.ensures)) in
     let position = refused_position a.sheet.now a.store.now a.reader a.request.now in
-    let first_is = rw c.levels-rows.ensures at c.first_refusing-first.ensures in
+    let first_is = rw c.of-parts.ensures.levels at c.first_refusing-first.ensures in
     let none = le-leb (asked_count a.request.now) position (omega (arith, c.if-first-count.false, first_is, c.count.ensures.0)) in
     rw (asked, room, none) c.success.ensures
 
@@ -80,9 +80,9 @@ pub returns-then-first-count : goal.returns-then-first-count
 unfolding tells
 returns-then-first-count c =
     let a = c.args in
-    let asked = asked_as a.sheet.now a.request.now a.reader c.levels-rows.ensures c.fields.ensures c.right.ensures ∙ c.if-not-known-right.false in
+    let asked = asked_as a.sheet.now a.request.now a.reader c.of-parts.ensures.levels c.of-parts.ensures.fields c.right.ensures ∙ c.if-not-known-right.false in
     let room = le-leb (answer_length a.request.now) a.room (omega (arith, c.if-room-length.false, c.length.ensures)) in
     let position = refused_position a.sheet.now a.store.now a.reader a.request.now in
-    let first_is = rw c.levels-rows.ensures at c.first_refusing-first.ensures in
+    let first_is = rw c.of-parts.ensures.levels at c.first_refusing-first.ensures in
     let before = lt-leb (asked_count a.request.now) position (omega (arith, c.if-first-count.true, first_is, c.count.ensures.0)) in
     rw (asked, room, before) (c.refusal-then-first-count.ensures ∙ ap (refusal numbers.partial_asked) first_is)

@@ -77,13 +77,13 @@ length-requires c =
     let a = c.args in
     let hold = holds a.sheet.now a.store.now a.mode a.fuel a.room c.if-mode-fuel.false c.judge_both-refused.ensures c.if-refused-ne-DONE.false in
     let taken = both_hold a.sheet.now a.store.now (mode_of a.mode) hold in
-    omega (arith, ap (λ (l : List ℕ). length l / 8) c.fields.ensures, few-fields _ taken.loaded)
+    omega (arith, ap (λ (l : List ℕ). length l / 8) c.of.ensures.fields, few-fields _ taken.loaded)
 
 pub returns-then-room-length : goal.returns-then-room-length
 returns-then-room-length c =
     let a = c.args in
     let past = past_store a.sheet.now a.store.now a.mode a.fuel a.room c.if-mode-fuel.false c.judge_both-refused.ensures c.if-refused-ne-DONE.false in
-    let length_is = c.length.ensures ∙ ap (λ (l : List ℕ). store_length (length l / 8)) c.fields.ensures in
+    let length_is = c.length.ensures ∙ ap (λ (l : List ℕ). store_length (length l / 8)) c.of.ensures.fields in
     let length = store_length (field_count a.sheet.now) in
     let short = lt-leb length a.room (omega (arith, c.if-room-length.true, length_is)) in
     c.refusal-then-room-length.ensures ∙ sym (past ∙ (first-fails (check (leb length a.room) numbers.out_short 0) [] short).1)
@@ -93,7 +93,7 @@ unfolding tells
 returns c =
     let a = c.args in
     let past = past_store a.sheet.now a.store.now a.mode a.fuel a.room c.if-mode-fuel.false c.judge_both-refused.ensures c.if-refused-ne-DONE.false in
-    let length_is = c.length.ensures ∙ ap (λ (l : List ℕ). store_length (length l / 8)) c.fields.ensures in
+    let length_is = c.length.ensures ∙ ap (λ (l : List ℕ). store_length (length l / 8)) c.of.ensures.fields in
     let length = store_length (field_count a.sheet.now) in
     let enough = le-leb length a.room (omega (arith, c.if-room-length.false, length_is)) in
     c.success.ensures ∙ sym (past ∙ (first_holds (check (leb length a.room) numbers.out_short 0) [] enough).1)

@@ -13,9 +13,9 @@ use Rattle.beltuqash.proofs.runs.run_from.Goals as goal
 pub returns : goal.returns
 unfolding ended
 returns c =
-    let s = starts c.new-run.ensures c.levels.ensures c.constants.ensures c.nodes.ensures in
-    let done : Done _ c.args.store.now _ _ _ c.args.fuel _ _ = record { same = c.fetch.ensures.is; starts = s; ran = rw c.nodes.ensures at c.execute-word.ensures } in
-    let count_is = ap (λ (l : List ℕ). length l / 8) c.fields.ensures in
+    let s = starts c.new-run.ensures c.of.ensures.levels c.of.ensures.fields c.of.ensures.constants c.of.ensures.nodes in
+    let done : Done _ c.args.store.now _ _ _ c.args.fuel _ _ = record { same = c.fetch.ensures.is; starts = s; ran = c.execute-word.ensures } in
+    let count_is = ap (λ (l : List ℕ). length l / 8) s.fields in
     let is = runs_done done c.if-word-ge-STOP.false c.args.out.now in (
       rw c.left_in.ensures at c.success.ensures ∙ ap (λ (x : Outcome). x.answer) (sym is),
       rw count_is at c.deliver.ensures ∙ ap (λ (x : Outcome). x.out) (sym is),
@@ -23,38 +23,42 @@ returns c =
 
 pub fetch-requires : goal.fetch-requires
 fetch-requires c =
-    let count_is = ap (λ (l : List ℕ). length l / 8) c.fields.ensures in
+    let s = starts c.new-run.ensures c.of.ensures.levels c.of.ensures.fields c.of.ensures.constants c.of.ensures.nodes in
+    let count_is = ap (λ (l : List ℕ). length l / 8) s.fields in
     rw count_is (few-fields _ c.requires.taken.loaded, fits-long _ _ c.requires.taken.fits, refl)
 
 pub overflow_sub-last : goal.overflow_sub-last
-overflow_sub-last c = omega (arith, ap length c.nodes.ensures, (nodes-long _ c.requires.taken.loaded).0)
+overflow_sub-last c =
+    let s = starts c.new-run.ensures c.of.ensures.levels c.of.ensures.fields c.of.ensures.constants c.of.ensures.nodes in
+    omega (arith, ap length s.nodes, (nodes-long _ c.requires.taken.loaded).0)
 
 pub execute-word-requires : goal.execute-word-requires
 execute-word-requires c =
-    rw c.nodes.ensures (task_in c.requires c.fetch.ensures (starts c.new-run.ensures c.levels.ensures c.constants.ensures c.nodes.ensures))
+    let s = starts c.new-run.ensures c.of.ensures.levels c.of.ensures.fields c.of.ensures.constants c.of.ensures.nodes in
+    task_in c.requires c.fetch.ensures s
 
 pub stopped-requires : goal.stopped-requires
 stopped-requires c =
-    let s = starts c.new-run.ensures c.levels.ensures c.constants.ensures c.nodes.ensures in
-    let done : Done _ c.args.store.now _ _ _ c.args.fuel _ _ = record { same = c.fetch.ensures.is; starts = s; ran = rw c.nodes.ensures at c.execute-word.ensures } in
+    let s = starts c.new-run.ensures c.of.ensures.levels c.of.ensures.fields c.of.ensures.constants c.of.ensures.nodes in
+    let done : Done _ c.args.store.now _ _ _ c.args.fuel _ _ = record { same = c.fetch.ensures.is; starts = s; ran = c.execute-word.ensures } in
     (done.ran.told c.if-word-ge-STOP.true, left-stopped done c.if-word-ge-STOP.true)
 
 pub returns-then-word-ge-STOP : goal.returns-then-word-ge-STOP
 returns-then-word-ge-STOP c =
-    let s = starts c.new-run.ensures c.levels.ensures c.constants.ensures c.nodes.ensures in
-    let done : Done _ c.args.store.now _ _ _ c.args.fuel _ _ = record { same = c.fetch.ensures.is; starts = s; ran = rw c.nodes.ensures at c.execute-word.ensures } in
+    let s = starts c.new-run.ensures c.of.ensures.levels c.of.ensures.fields c.of.ensures.constants c.of.ensures.nodes in
+    let done : Done _ c.args.store.now _ _ _ c.args.fuel _ _ = record { same = c.fetch.ensures.is; starts = s; ran = c.execute-word.ensures } in
     let is = runs-stopped done c.if-word-ge-STOP.true c.args.out.now in
     (c.stopped.ensures _ _ ∙ ap (λ (x : Outcome). x.answer) (sym is), sym (ap (λ (x : Outcome). x.out) is ∙ stop_out _ _ (done.ran.told c.if-word-ge-STOP.true) _ _))
 
 pub deliver-requires : goal.deliver-requires
 deliver-requires c =
-    let s = starts c.new-run.ensures c.levels.ensures c.constants.ensures c.nodes.ensures in
-    let done : Done _ c.args.store.now _ _ _ c.args.fuel _ _ = record { same = c.fetch.ensures.is; starts = s; ran = rw c.nodes.ensures at c.execute-word.ensures } in
-    let count_is = ap (λ (l : List ℕ). length l / 8) c.fields.ensures in
+    let s = starts c.new-run.ensures c.of.ensures.levels c.of.ensures.fields c.of.ensures.constants c.of.ensures.nodes in
+    let done : Done _ c.args.store.now _ _ _ c.args.fuel _ _ = record { same = c.fetch.ensures.is; starts = s; ran = c.execute-word.ensures } in
+    let count_is = ap (λ (l : List ℕ). length l / 8) s.fields in
     rw count_is (few-fields _ c.requires.taken.loaded, c.requires.room-is, marks-few done)
 
 pub overflow_sub-fuel : goal.overflow_sub-fuel
 overflow_sub-fuel c =
-    let s = starts c.new-run.ensures c.levels.ensures c.constants.ensures c.nodes.ensures in
-    let done : Done _ c.args.store.now _ _ _ c.args.fuel _ _ = record { same = c.fetch.ensures.is; starts = s; ran = rw c.nodes.ensures at c.execute-word.ensures } in
+    let s = starts c.new-run.ensures c.of.ensures.levels c.of.ensures.fields c.of.ensures.constants c.of.ensures.nodes in
+    let done : Done _ c.args.store.now _ _ _ c.args.fuel _ _ = record { same = c.fetch.ensures.is; starts = s; ran = c.execute-word.ensures } in
     omega (arith, c.left_in.ensures, left-done done c.if-word-ge-STOP.false)

@@ -4,7 +4,7 @@ use Prim.Native.Nat.{ℕ, ◌+◌, ◌*◌, ◌<◌}
 use native.Mathlib.Omega.{arith}
 use mathlib.Core.Path.{ap}
 use Rattle.sections.specs.Sections.{section_end}
-use Rattle.sections.proofs.Parts.{few_bytes}
+use Rattle.sections.proofs.Cuts.{few_bytes}
 use Rattle.sections.proofs.section.section_end.Goals as goal
 
 pub overflow_mul-result : goal.overflow_mul-result
