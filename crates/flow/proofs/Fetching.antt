@@ -1,14 +1,13 @@
 -- A work store: filled from a store, and its words as entries of one.
-use Prim.Native.Nat.{ℕ, ◌+◌, ◌≤◌, ◌<◌}
+use Prim.Native.Nat.{ℕ, ◌+◌, ◌-◌, ◌≤◌, ◌<◌}
 use native.Mathlib.Omega.{arith}
 use native.Mathlib.Decide.{ℕ_discrete}
-use mathlib.Core.Logic.{◌≢◌}
 use mathlib.Core.Path.{◌≡◌, sym, ap, ◌∙◌, fun_ext}
-use mathlib.Core.List.{List, ◌∷◌}
+use mathlib.Core.List.{List, ◌∷◌, ◌++◌}
 use borrow.Author.Tests.{ltb-true, ltb-false}
 use lib.Dec.{ltb}
-use lib.ListN.{length, get_or, set, replicate, length-replicate, length-set, get_or-replicate, get_or-eq_default}
-use lib.Seq.{get_or-set_same, get_or-set_other}
+use lib.ListN.{length, get_or, set, replicate, length-append, length-replicate, get_or-append, get_or-replicate, get_or-eq_default}
+use lib.Seq.{get_or-set_same, get_or-set_other, get_or-append-add}
 use Rattle.basis.proofs.Tests.{split}
 use Rattle.value.specs.Bytes.{bytes_of}
 use Rattle.store.specs.Cells.{Store}
@@ -24,11 +23,19 @@ pub word_entry : (w : ℕ) → mark_in w ∷ bytes_of (value_in w).n ≡ entry_o
 unfolding entry_of
 word_entry w = ap (λ (b : ℕ). b ∷ bytes_of (value_in w).n) (sym (byte_back (mark_in w)))
 
--- the fields below i are filled, and zeros stand from there on
-pub record Filling (store work : List ℕ) (i : ℕ) : Type 0 where
-  pub same : (j : ℕ) → j < i → work_at mark_of work j ≡ cell_at store j
-  pub blank : (j : ℕ) → i ≤ j → get_or work j 0 ≡ 0
-  pub long : length work ≡ 64
+-- the fields below i are filled
+abbrev pub Filled : List ℕ → List ℕ → ℕ → Type 0
+Filled store words i = (j : ℕ) → j < i → work_at mark_of words j ≡ cell_at store j
+
+-- one more field
+pub filled_more : (store words : List ℕ) (i word : ℕ) → i < length words → Filled store words i → cell_in mark_of word ≡ cell_at store i
+    → Filled store (set words i word) (i + 1)
+unfolding work_at
+filled_more store words i word inside before is j h = go (ℕ_discrete j i)
+  where
+    go : Dec (j ≡ i) → work_at mark_of (set words i word) j ≡ cell_at store j
+    go (yes e) = rw (e, get_or-set_same words i word 0 inside) is
+    go (no ne) = rw (get_or-set_other words i j word 0 ne) (before j (omega (arith, ne)))
 
 zeros : (m k : ℕ) → get_or (replicate {A = ℕ} m 0) k 0 ≡ 0
 zeros m k =
@@ -36,44 +43,23 @@ zeros m k =
     (λ less. get_or-replicate m k 0 0 (ltb-true k m less))
     (λ more. get_or-eq_default (replicate m 0) 0 (omega (arith, ltb-false k m more, length-replicate {A = ℕ} m 0)))
 
-pub fetch_first : (store work : List ℕ) → work ≡ replicate 64 0 → Filling store work 0
-fetch_first store work e = record {
-  same = λ j h. absurd (omega arith);
-  blank = λ j h. rw e (zeros 64 j);
-  long = ap length e ∙ length-replicate {A = ℕ} 64 0;
-}
-
--- one more field
-module _ (store work : List ℕ) (i word : ℕ) (inside : i < 64) (before : Filling store work i) where
-  here : get_or (set work i word) i 0 ≡ word
-  here = get_or-set_same work i word 0 (omega (arith, before.long))
-
-  by_number : {P : Type 0} (j : ℕ) → (j ≡ i → P) → (j ≢ i → P) → P
-  by_number {P} j at_i other = go (ℕ_discrete j i)
-    where
-      go : Dec (j ≡ i) → P
-      go (yes e) = at_i e
-      go (no ne) = other ne
-
-  pub fetch_next : cell_in mark_of word ≡ cell_at store i → Filling store (set work i word) (i + 1)
-  unfolding work_at
-  fetch_next is = record {
-    same = λ j h. by_number j (λ e. rw (e, here) is) (λ ne. rw (get_or-set_other work i j word 0 ne) (before.same j (omega (arith, ne))));
-    blank = λ j h. get_or-set_other work i j word 0 (λ e. omega arith) ∙ before.blank j (omega arith);
-    long = length-set work i word ∙ before.long;
-  }
-
 -- beyond its fields a store reads as zeros, and so does a work store
 beyond : (store work : List ℕ) (i : ℕ) → length store ≤ entry_at i → get_or work i 0 ≡ 0 → work_at mark_of work i ≡ cell_at store i
 unfolding work_at cell_at
 beyond store work i h e = rw (e, past-fields store i h)
 
-pub fetch_last : (store work : List ℕ) (fields : ℕ) → length store ≡ store_length fields → Filling store work fields → Fetched store work
-fetch_last store work fields long filled = record {
+-- the words of all fields, then zeros
+pub fetched : (store words : List ℕ) (fields : ℕ) → fields ≤ 64 → length store ≡ store_length fields → length words ≡ fields → Filled store words fields
+    → Fetched store (words ++ replicate (64 - fields) 0)
+unfolding work_at
+fetched store words fields few long size filled = record {
   is = fun_ext (λ i. split (ltb i fields)
-      (λ less. filled.same i (ltb-true i fields less))
-      (λ more. let past = ltb-false i fields more in beyond store work i (omega arith) (filled.blank i past)));
-  long = filled.long;
+      (λ less. let inside = ltb-true i fields less in rw (get_or-append words (replicate (64 - fields) 0) 0 i (omega arith)) (filled i inside))
+      (λ more.
+      let past = ltb-false i fields more in
+      let at : i ≡ length words + (i - fields) = omega arith in
+      beyond store _ i (omega arith) (ap (λ (k : ℕ). get_or (words ++ replicate (64 - fields) 0) k 0) at ∙ get_or-append-add words (replicate (64 - fields) 0) (i - fields) 0 ∙ zeros (64 - fields) (i - fields))));
+  long = omega (arith, length-append words (replicate (64 - fields) 0), length-replicate {A = ℕ} (64 - fields) 0);
 }
 
 -- a word that has a field's cell has the field's mark byte

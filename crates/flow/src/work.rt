@@ -13,10 +13,8 @@ pub fn fetch(store: &[u8], work: &mut [u64; 64], fields: usize)
     requires { (fields ≤ 64) × (length store.now ≡ store_length fields) × (work.old ≡ replicate 64 0) }
     ensures { Fetched store.now work.new }
 {
-    let mut i = 0;
-    while i < fields {
-        work[i] = word(value_at(store, i), mark_at(store, i));
-        i += 1;
+    for (field, held) in work[..fields].iter_mut().enumerate() {
+        *held = word(value_at(store, field), mark_at(store, field));
     }
 }
 
@@ -27,10 +25,7 @@ pub fn deliver(work: &[u64; 64], out: &mut [u8], fields: usize)
 {
     out[0] = (fields % 256) as u8;
     out[1] = 0;
-    let mut i = 0;
-    while i < fields {
-        let word = work[i];
-        put_field(out, i, mark_in(word), value_in(word));
-        i += 1;
+    for (field, &word) in work[..fields].iter().enumerate() {
+        put_field(out, field, mark_in(word), value_in(word));
     }
 }

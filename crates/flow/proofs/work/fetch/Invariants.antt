@@ -1,10 +1,6 @@
--- The fields so far, then zeros.
-use Prim.Native.Nat.{◌-◌, ◌≤◌}
-use Rattle.flow.proofs.Fetching.{Filling}
+-- The fields so far.
+use Rattle.flow.proofs.Fetching.{Filled}
 use Rattle.flow.proofs.work.fetch.Given as goal
 
-abbrev pub invariant-loop-i : goal.invariant-loop-i
-invariant-loop-i l = (l.i ≤ l.fields) × Filling l.store l.work l.i
-
-abbrev pub decreases-loop-i : goal.decreases-loop-i
-decreases-loop-i l = l.fields - l.i
+abbrev pub invariant-loop-field : goal.invariant-loop-field
+invariant-loop-field l = Filled l.store l.held-items l.field
