@@ -19,9 +19,10 @@ use Rattle.rules.specs.Rules.{exec}
 use Rattle.store.specs.Marks.{Mark, mode_of, mark_of}
 use Rattle.rules.specs.LevelMarks.{marking}
 use Rattle.store.specs.Stores.{mark_at, store_length, store_of}
-use Rattle.marks.specs.Inside.Words.{mark_in, work_of, Goes, Stops, left_in, place_in, number_in, why_of}
+use Rattle.marks.specs.Inside.Words.{blank, work_of, Goes, Stops, left_in, place_in, number_in, why_of}
 use Rattle.marks.specs.Inside.Modes.{mode_in}
 use Rattle.marks.specs.Inside.Meanings.{rows_in, LevelRun, meaning, First}
+use Rattle.marks.specs.declared.Cell.{Cell as Held}
 use Rattle.marks.specs.declared.Run.{Run}
 use Rattle.sections.specs.declared.Parts.{Parts}
 use Rattle.flow.specs.Inside.Tasks.{Fetched, stop_of, end_of, Told, CmdIn, Ran}
@@ -108,7 +109,7 @@ some_level : (rows : List ℕ) → right rows ≡ true → 0 < count rows
 some_level rows h = omega (arith, (lowest_is rows h).level)
 
 -- the last command may be done
-pub task_in : {sheet store : List ℕ} {mode fuel room : ℕ} {work : List ℕ} {run : Run} → Given sheet store mode fuel room → Fetched store work → Starts sheet mode run
+pub task_in : {sheet store : List ℕ} {mode fuel room : ℕ} {work : List Held} {run : Run} → Given sheet store mode fuel room → Fetched store work → Starts sheet mode run
     → CmdIn run work (last_of run.parts.nodes.now) run.lowest
 unfolding meaning
 task_in {sheet} {store} {mode} {fuel} {room} {work} given fetched s =
@@ -134,12 +135,12 @@ task_in {sheet} {store} {mode} {fuel} {room} {work} given fetched s =
     }
 
 -- the last command was done, on a work store
-pub record Done (sheet store : List ℕ) (mode : ℕ) (run : Run) (work : List ℕ) (fuel : ℕ) (after : List ℕ) (word : ℕ) : Type 0 where
+pub record Done (sheet store : List ℕ) (mode : ℕ) (run : Run) (work : List Held) (fuel : ℕ) (after : List Held) (word : ℕ) : Type 0 where
   pub same : work_of mark_of work ≡ store_of store
   pub starts : Starts sheet mode run
   pub ran : Ran run work (last_of run.parts.nodes.now) run.lowest fuel after word
 
-module _ {sheet store : List ℕ} {mode : ℕ} {run : Run} {work : List ℕ} {fuel : ℕ} {after : List ℕ} {word : ℕ} (d : Done sheet store mode run work fuel after word) where
+module _ {sheet store : List ℕ} {mode : ℕ} {run : Run} {work : List Held} {fuel : ℕ} {after : List Held} {word : ℕ} (d : Done sheet store mode run work fuel after word) where
   abbrev executed : End Mark
   executed = exec (marking (lattice (levels_of sheet)) (mode_of mode)) (program_of sheet) (lattice (levels_of sheet)).bot (store_of store) fuel
 
@@ -150,7 +151,7 @@ module _ {sheet store : List ℕ} {mode : ℕ} {run : Run} {work : List ℕ} {fu
       rw (s.mode-is, s.level-run.lowest, s.levels, s.constants, s.nodes, bot-is (levels_of sheet), d.same) at d.ran.is
 
   -- every mark is a byte
-  pub marks-few : (i : ℕ) → i < field_count sheet → mark_in (get_or after i 0) < 256
+  pub marks-few : (i : ℕ) → i < field_count sheet → (get_or after i blank).mark < 256
   unfolding meaning
   marks-few i h = omega (arith, (known_is _ _ (d.ran.ready.words i)).0)
 

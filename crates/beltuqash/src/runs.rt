@@ -6,7 +6,7 @@ ghost use Rattle.beltuqash.specs.Calls.{ended, run_from};
 ghost use Rattle.beltuqash.specs.Inside.Given.{Given, Comes};
 
 use basis::answer::{Answer, success};
-use marks::{Run, words};
+use marks::{Cell, Run, words};
 use sections::Parts;
 
 // Runs a sheet that passes from a store that fits it, on a work store: only a run that is done writes. The work store lies on the stack
@@ -19,7 +19,7 @@ pub fn run_from(sheet: &[u8], store: &[u8], mode: u32, fuel: u32, out: &mut [u8]
     let run = Run::new(Parts::of(sheet), mode);
     let fields = run.parts.fields.len() / 8;
     let last = run.parts.nodes.len() / 8 - 1;
-    let mut work = [0u64; 64];
+    let mut work = [Cell::BLANK; 64];
     flow::work::fetch(store, &mut work, fields);
     let word = flow::commands::execute(&run, &mut work, last, run.lowest, fuel);
     if words::STOP <= word {

@@ -2,7 +2,7 @@
 use Prim.Native.Nat.{ℕ, suc, ◌<◌}
 use native.Mathlib.Decide.{ℕ_discrete}
 use native.Mathlib.Omega.{arith}
-use mathlib.Core.Path.{◌≡◌, sym, ap, ap₂, ◌∙◌, fun_ext}
+use mathlib.Core.Path.{◌≡◌, sym, ap, ◌∙◌, fun_ext}
 use mathlib.Core.List.{List}
 use borrow.Author.Tests.{eqb-true, eqb-false}
 use lib.Dec.{eqb}
@@ -17,7 +17,8 @@ use Rattle.rules.specs.Ends.{Why, gives, stops, End, done, stopped, at, and_then
 use Rattle.rules.specs.Rules.{Marking, put, eval, updated, exec}
 use Rattle.store.specs.Cells.{Cell, cell, Store}
 use Rattle.rules.proofs.Units.{assign_law}
-use Rattle.marks.specs.Inside.Words.{value_in, mark_in, cell_in, work_at, work_of, Word, Goes, Stops}
+use Rattle.marks.specs.Inside.Words.{blank, value_in, mark_in, cell_of, work_at, work_of, Goes, Stops}
+use Rattle.marks.specs.declared.Cell.{Cell as Held}
 use Rattle.marks.specs.declared.Run.{Run}
 use Rattle.marks.specs.Inside.Meanings.{Meaning, meaning, Stored}
 use Rattle.flow.specs.Inside.Tasks.{Ready, ExpIn, Evaluated, CmdIn, Assigned}
@@ -53,38 +54,37 @@ module _ {Mark Seen Context : Type 0} (𝓜 : Marking Mark Seen Context) (place 
       unfolding spend with
       assign-done k e = assign_law 𝓜 place i b context σ (suc left) ∙ rw (value, e)
 
--- ── a field's new word ──────────────────────────────────────────────────────────────────────
+-- ── a field's new cell ──────────────────────────────────────────────────────────────────────
 
-module _ {Mark : Type 0} (of : ℕ → Mark) (work : List ℕ) (i word : ℕ) (inside : i < length work) where
-  work_at_set : (j : ℕ) → work_of of (set work i word) j ≡ put i (cell_in of word) (work_of of work) j
+module _ {Mark : Type 0} (of : ℕ → Mark) (work : List Held) (i : ℕ) (held : Held) (inside : i < length work) where
+  work_at_set : (j : ℕ) → work_of of (set work i held) j ≡ put i (cell_of of held) (work_of of work) j
   unfolding work_at put
   work_at_set j = split (eqb i j)
-      (λ e. let here : j ≡ i = sym (eqb-true i j e) in rw e (ap (cell_in of) (rw here (get_or-set_same work i word 0 inside))))
-      (λ e. rw e (ap (cell_in of) (get_or-set_other work i j word 0 (λ here. eqb-false i j e (sym here)))))
+      (λ e. let here : j ≡ i = sym (eqb-true i j e) in rw e (ap (cell_of of) (rw here (get_or-set_same work i held blank inside))))
+      (λ e. rw e (ap (cell_of of) (get_or-set_other work i j held blank (λ here. eqb-false i j e (sym here)))))
 
-  work_set : work_of of (set work i word) ≡ put i (cell_in of word) (work_of of work)
+  work_set : work_of of (set work i held) ≡ put i (cell_of of held) (work_of of work)
   work_set = fun_ext work_at_set
 
--- a word with a known mark leaves the work store ready
-ready-set : {run : Run} {work : List ℕ} {i : ℕ} (word : ℕ) → Ready run work → i < 64 → (meaning run).KnownMark (mark_in word)
-    → Ready run (set work i word)
-ready-set {run} {work} {i} word p inside known = record {
+-- a cell with a known mark leaves the work store ready
+ready-set : {run : Run} {work : List Held} {i : ℕ} (held : Held) → Ready run work → i < 64 → (meaning run).KnownMark held.mark → Ready run (set work i held)
+ready-set {run} {work} {i} held p inside known = record {
   askable = p.askable;
   fields = p.fields;
   few-fields = p.few-fields;
   formed = p.formed;
   few-nodes = p.few-nodes;
-  long = length-set work i word ∙ p.long;
+  long = length-set work i held ∙ p.long;
   words = λ j. at_field j (ℕ_discrete j i);
 }
   where
-    at_field : (j : ℕ) → Dec (j ≡ i) → (meaning run).KnownMark (mark_in (get_or (set work i word) j 0))
-    at_field j (yes e) = rw (e, get_or-set_same work i word 0 (rw p.long inside)) known
-    at_field j (no e) = rw (get_or-set_other work i j word 0 e) (p.words j)
+    at_field : (j : ℕ) → Dec (j ≡ i) → (meaning run).KnownMark (get_or (set work i held) j blank).mark
+    at_field j (yes e) = rw (e, get_or-set_same work i held blank (rw p.long inside)) known
+    at_field j (no e) = rw (get_or-set_other work i j held blank e) (p.words j)
 
 -- ── the assignment at a node ────────────────────────────────────────────────────────────────
 
-module _ {run : Run} {work : List ℕ} {n context : ℕ} (p : CmdIn run work n context) (kind : kind_at run.parts.nodes.now n ≡ 6) where
+module _ {run : Run} {work : List Held} {n context : ℕ} (p : CmdIn run work n context) (kind : kind_at run.parts.nodes.now n ≡ 6) where
   abbrev 𝓢 : Meaning
   𝓢 = meaning run
 
@@ -105,7 +105,7 @@ module _ {run : Run} {work : List ℕ} {n context : ℕ} (p : CmdIn run work n c
       let few = p.ready.few-fields in
       omega arith
 
-  pub field-known : 𝓢.KnownMark (mark_in (get_or work field 0))
+  pub field-known : 𝓢.KnownMark (get_or work field blank).mark
   field-known = p.ready.words field
 
   pub source_in : ExpIn run work source
@@ -131,12 +131,12 @@ module _ {run : Run} {work : List ℕ} {n context : ℕ} (p : CmdIn run work n c
       number = evaluated.number;
     }
 
-    module _ (goes : Goes x) {k : ℕ} (stored : Stored 𝓢 n context (mark_in (get_or work field 0)) (mark_in x) k) where
+    module _ (goes : Goes x) {k : ℕ} (stored : Stored 𝓢 n context (get_or work field blank).mark (mark_in x) k) where
       -- the mark is refused
       pub assigned_refused : Stops k → Assigned run work n context work k
       unfolding work_at
       assigned_refused large =
-          let update = updated-stops 𝓢.marking n (𝓢.context_of context) (value_in (get_or work field 0)) (value_in x) _ _ _ _ (answer-stops stored large) in
+          let update = updated-stops 𝓢.marking n (𝓢.context_of context) (get_or work field blank).value (value_in x) _ _ _ _ (answer-stops stored large) in
           record {
             is = λ left. or_stopped k left _ large
                 ∙ sym (at-node (suc left) ∙ assign-refused 𝓢.marking _ _ field _ (work_of 𝓢.mark_of work) left _ (answer-gives evaluated goes) _ _ update);
@@ -144,18 +144,18 @@ module _ {run : Run} {work : List ℕ} {n context : ℕ} (p : CmdIn run work n c
             number = stored.number;
           }
 
-      -- the field has its new word
-      pub assigned_done : Goes k → {word : ℕ} → Word (value_in x) k word → Assigned run work n context (set work field word) 0
+      -- the field has its new cell
+      pub assigned_done : Goes k → Assigned run work n context (set work field record { value = value_in x; mark = k }) 0
       unfolding work_at
-      assigned_done fine {word} made =
+      assigned_done fine =
+          let held : Held = record { value = value_in x; mark = k } in
           let inside : field < length work = rw p.ready.long field-few in
-          let update = updated-gives 𝓢.marking n (𝓢.context_of context) (value_in (get_or work field 0)) (value_in x) _ _ _ (answer-gives stored fine) in
-          let new : cell_in 𝓢.mark_of word ≡ cell (value_in x) (𝓢.mark_of k) = ap₂ cell made.value (ap 𝓢.mark_of made.mark-is) in
+          let update = updated-gives 𝓢.marking n (𝓢.context_of context) (get_or work field blank).value (value_in x) _ _ _ (answer-gives stored fine) in
           record {
             is = λ left. or_next 0 left _ (omega arith)
                 ∙ ap (λ (τ : Store 𝓢.Mark). done τ left)
-                (work_set 𝓢.mark_of work field word inside ∙ ap (λ (c : Cell 𝓢.Mark). put field c (work_of 𝓢.mark_of work)) new)
+                (work_set 𝓢.mark_of work field held inside)
                 ∙ sym (at-node (suc left) ∙ assign-done 𝓢.marking _ _ field _ (work_of 𝓢.mark_of work) left _ (answer-gives evaluated goes) _ update);
-            ready = ready-set word p.ready field-few (rw made.mark-is (stored.known fine).0);
+            ready = ready-set held p.ready field-few (stored.known fine).0;
             number = goes_number 0 (omega arith);
           }

@@ -16,7 +16,8 @@ use Rattle.sheet.proofs.Trees.{held_there, exp_at-constant, exp_at-field, exp_at
 use Rattle.rules.specs.Ends.{Why, out_of_range, divisor_zero, Result, gives, stops, at, and_then}
 use Rattle.rules.specs.Rules.{Marking, computed, reading, operated, inverted, sealing, eval}
 use Rattle.store.specs.Cells.{Cell, cell, Store}
-use Rattle.marks.specs.Inside.Words.{value_in, mark_in, cell_in, work_at, work_of, Word, Goes, Stops, why_of, Stop}
+use Rattle.marks.specs.Inside.Words.{blank, value_in, mark_in, cell_in, work_at, work_of, Word, Goes, Stops, why_of, Stop}
+use Rattle.marks.specs.declared.Cell.{Cell as Held}
 use Rattle.marks.specs.declared.Run.{Run}
 use Rattle.marks.specs.Inside.Meanings.{Meaning, meaning, Sees, Constant, Sealed, Read, Joined}
 use Rattle.flow.specs.Inside.Tasks.{ExpIn, Evaluated, Operated}
@@ -115,7 +116,7 @@ unfolding held_in kinds
 right-below nodes n i k = held_there nodes n i 2 1 k (omega arith)
 
 -- a lower expression is worked out on the same store
-pub child_in_lem : {run : Run} {work : List ℕ} {n w : ℕ} → ExpIn run work n → ExpBelow run.parts.nodes.now n w
+pub child_in_lem : {run : Run} {work : List Held} {n w : ℕ} → ExpIn run work n → ExpBelow run.parts.nodes.now n w
     → (w < n) × ExpIn run work w
 child_in_lem p below =
     let inside = p.inside in
@@ -162,7 +163,7 @@ module _ (run : Run) (n left right : ℕ) where
   zero_word {l} {r} e s =
       answers_stops s (omega arith, omega arith) (operated_zero 𝓞.marking n op (value_in left) (value_in right) (seen left) (seen right) e)
 
-module _ {run : Run} {work : List ℕ} {n : ℕ} (p : ExpIn run work n) where
+module _ {run : Run} {work : List Held} {n : ℕ} (p : ExpIn run work n) where
   abbrev 𝓢 : Meaning
   𝓢 = meaning run
 
@@ -189,13 +190,13 @@ module _ {run : Run} {work : List ℕ} {n : ℕ} (p : ExpIn run work n) where
     seen_goes 𝓢 made sees,
   )
 
-  pub field_word : {r a : ℕ} {v : Value} {m mark : ℕ} → kind ≡ 1 → a ≡ child 0 → v ≡ value_in (get_or work a 0) → m ≡ mark_in (get_or work a 0) → Read 𝓢 a m mark → Word v mark r
+  pub field_word : {r a mark : ℕ} → kind ≡ 1 → a ≡ child 0 → Read 𝓢 a (get_or work a blank).mark mark → Word (get_or work a blank).value mark r
       → Evaluated run work n r × Goes r
   unfolding work_at reading
-  field_word {r} {a} {v} {m} {mark} k is value mark-is sees made = (
+  field_word {r} {a} {mark} k is sees made = (
     seen_word made sees
         (eval-field 𝓢.marking _ p.ready.formed _ p.inside _ k
-        ∙ rw (value, mark-is, is)),
+        ∙ rw is),
     seen_goes 𝓢 made sees,
   )
 

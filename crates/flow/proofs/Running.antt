@@ -19,6 +19,7 @@ use Rattle.rules.specs.Ends.{End, done, spent, spend, bind}
 use Rattle.rules.specs.Rules.{tested, exec}
 use Rattle.rules.proofs.Units.{skip_law, assign_law, sequence_law, if_law, while_law, units_done}
 use Rattle.marks.specs.Inside.Words.{upper_half, Half, Place, value_in, mark_in, work_of, Goes, Stops, left_in, place_in, number_in, Stop}
+use Rattle.marks.specs.declared.Cell.{Cell as Held}
 use Rattle.marks.specs.declared.Run.{Run}
 use Rattle.marks.specs.Inside.Meanings.{Meaning, meaning}
 use Rattle.flow.specs.Inside.Tasks.{Ready, test_of, stop_of, end_of, Told, CmdIn, Tested, Assigned, Ran}
@@ -39,17 +40,17 @@ bind_stop x w σ next e h = rw (← e, end_stop w σ h) (stop_bind w next)
 -- ── what is still to do ─────────────────────────────────────────────────────────────────────
 
 -- a child is a command of the same run
-pub child : {run : Run} {work : List ℕ} {n m context next : ℕ} → CmdIn run work n context → CmdBelow run.parts.nodes.now n m → (meaning run).KnownContext next → CmdIn run work m next
+pub child : {run : Run} {work : List Held} {n m context next : ℕ} → CmdIn run work n context → CmdBelow run.parts.nodes.now n m → (meaning run).KnownContext next → CmdIn run work m next
 child p below known =
     let inside = p.inside in
     let lower = below.lower in
     record { ready = p.ready; inside = omega arith; sort = below.least; context-known = known }
 
 -- no part leaves more fuel than it was given
-pub fuel-left : {run : Run} {work after : List ℕ} {n context l r : ℕ} → Ran run work n context l after r → Goes r → left_in r ≤ l
+pub fuel-left : {run : Run} {work after : List Held} {n context l r : ℕ} → Ran run work n context l after r → Goes r → left_in r ≤ l
 fuel-left {run} {work} {after} {n} {context} {l} {r} p h = units_done _ _ _ _ l _ (left_in r) (sym p.is ∙ end_done r _ h)
 
-module _ (run : Run) (before : List ℕ) (first start fuel : ℕ) where
+module _ (run : Run) (before : List Held) (first start fuel : ℕ) where
   abbrev nodes : List ℕ
   nodes = run.parts.nodes.now
 
@@ -63,13 +64,13 @@ module _ (run : Run) (before : List ℕ) (first start fuel : ℕ) where
   abbrev of_context : ℕ → 𝓢.Context
   of_context context = 𝓢.context_of context
 
-  abbrev of_work : List ℕ → Store 𝓢.Mark
+  abbrev of_work : List Held → Store 𝓢.Mark
   of_work work = work_of 𝓢.mark_of work
 
   abbrev to_do : ℕ → 𝓢.Context → Store 𝓢.Mark → ℕ → End 𝓢.Mark
   to_do n = exec 𝓢.marking (cmd_at constants nodes n)
 
-  pub record Going (work : List ℕ) (n context left : ℕ) : Type 0 where
+  pub record Going (work : List Held) (n context left : ℕ) : Type 0 where
     pub is : to_do n (of_context context) (of_work work) left ≡ to_do first (of_context start) (of_work before) fuel
     pub command : CmdIn run work n context
     pub lower : n ≤ first
@@ -78,7 +79,7 @@ module _ (run : Run) (before : List ℕ) (first start fuel : ℕ) where
   pub starts : CmdIn run before first start → fuel ≤ upper_half → Going before first start fuel
   starts p h = record { is = refl; command = p; lower = omega arith; few = h }
 
-  module _ {work : List ℕ} {n context left : ℕ} (g : Going work n context left) where
+  module _ {work : List Held} {n context left : ℕ} (g : Going work n context left) where
     abbrev rest : End 𝓢.Mark
     rest = to_do n (of_context context) (of_work work) left
 
@@ -89,16 +90,16 @@ module _ (run : Run) (before : List ℕ) (first start fuel : ℕ) where
         omega arith
 
     -- what ends what is to do ends the run
-    ends : {after : List ℕ} {r : ℕ} → end_of r (of_work after) ≡ rest → Ready run after → (Stops r → Told r)
+    ends : {after : List Held} {r : ℕ} → end_of r (of_work after) ≡ rest → Ready run after → (Stops r → Told r)
         → Ran run before first start fuel after r
     ends e ready told = record { is = e ∙ g.is; ready = ready; told = told }
 
     -- the same command on the work store that a part left
-    moved : {after : List ℕ} {m next l r : ℕ} → Ran run work m next l after r → CmdIn run after n context
+    moved : {after : List Held} {m next l r : ℕ} → Ran run work m next l after r → CmdIn run after n context
     moved p = record { ready = p.ready; inside = g.command.inside; sort = g.command.sort; context-known = g.command.context-known }
 
     -- going on at a child
-    on : {after : List ℕ} {m next l : ℕ} → CmdIn run after n context → CmdBelow nodes n m → 𝓢.KnownContext next → to_do m (of_context next) (of_work after) l ≡ rest → l ≤ upper_half
+    on : {after : List Held} {m next l : ℕ} → CmdIn run after n context → CmdBelow nodes n m → 𝓢.KnownContext next → to_do m (of_context next) (of_work after) l ≡ rest → l ≤ upper_half
         → Going after m next l
     on p below known e small =
         let less = below.lower in
@@ -129,7 +130,7 @@ module _ (run : Run) (before : List ℕ) (first start fuel : ℕ) where
       turn_below (suc zero) h = held_there g.command.ready.formed _ g.command.inside 7 1 kind (omega arith)
       turn_below (suc (suc k)) h = absurd (omega arith)
 
-      module _ {after : List ℕ} {r : ℕ} (p : Ran run work (slot_at nodes n 0) context left after r) where
+      module _ {after : List Held} {r : ℕ} (p : Ran run work (slot_at nodes n 0) context left after r) where
         -- the first command stops, and so does the run
         pub first_stops : Stops r → Ran run before first start fuel after r
         first_stops h = ends (end_stop r (of_work after) h ∙ sym (sequence-is kind ∙ bind_stop _ r (of_work after) _ p.is h)) p.ready p.told
@@ -163,11 +164,11 @@ module _ (run : Run) (before : List ℕ) (first start fuel : ℕ) where
           omega arith
 
       -- the fuel left is all there is to tell
-      ends-left : {after : List ℕ} → done (of_work after) l ≡ rest → Ready run after → Ran run before first start fuel after l
+      ends-left : {after : List Held} → done (of_work after) l ≡ rest → Ready run after → Ran run before first start fuel after l
       ends-left e ready = ends (end_left l _ left-few ∙ e) ready (λ large. absurd (omega (arith, left-few)))
 
       -- a command that ends the run
-      pub at_last : {after : List ℕ} {r : ℕ} → Ran run work n context (suc l) after r → Ran run before first start fuel after r
+      pub at_last : {after : List Held} {r : ℕ} → Ran run work n context (suc l) after r → Ran run before first start fuel after r
       at_last p = ends (rw some p.is) p.ready p.told
 
       pub skip-done : kind_at nodes n ≡ 5 → Ran run before first start fuel work l
@@ -175,7 +176,7 @@ module _ (run : Run) (before : List ℕ) (first start fuel : ℕ) where
       skip-done kind = ends-left (sym (skip_is kind ∙ rw some)) g.command.ready
 
       -- ── an assignment ──
-      module _ {after : List ℕ} {x : ℕ} (p : Assigned run work n context after x) where
+      module _ {after : List Held} {x : ℕ} (p : Assigned run work n context after x) where
         pub assign-stops : Stops x → {r : ℕ} → Stop (number_in x) (place_in x) l r → Ran run before first start fuel after r
         assign-stops large {r} s =
             ends (end_stop r (of_work after) s.stops ∙ stop_handed s large p.number
@@ -223,7 +224,7 @@ module _ (run : Run) (before : List ℕ) (first start fuel : ℕ) where
             unfolding held_in kinds
             body_below = held_there g.command.ready.formed _ g.command.inside 9 1 kind (omega arith)
 
-            module _ {after : List ℕ} {w : ℕ} (holds : is_true (value_in x) ≡ true) (q : Ran run work (slot_at nodes n 1) (mark_in x) l after w) where
+            module _ {after : List Held} {w : ℕ} (holds : is_true (value_in x) ≡ true) (q : Ran run work (slot_at nodes n 1) (mark_in x) l after w) where
               round : bind (to_do (slot_at nodes n 1) (of_context (mark_in x)) (of_work work) l) (to_do n (of_context (mark_in x))) ≡ rest
               round = sym (test_yes _ x l _ _ low holds) ∙ by_word _ _ ∙ sym (while-is kind)
 

@@ -16,6 +16,7 @@ use Rattle.rules.specs.Ends.{Why, gives, stops, End, stopped, at, with, choose, 
 use Rattle.rules.specs.Rules.{Marking, eval, branch, tested}
 use Rattle.store.specs.Cells.{cell, Store}
 use Rattle.marks.specs.Inside.Words.{value_in, mark_in, Word, Goes, Stops}
+use Rattle.marks.specs.declared.Cell.{Cell as Held}
 use Rattle.marks.specs.declared.Run.{Run}
 use Rattle.marks.specs.Inside.Meanings.{Meaning, meaning, Entered}
 use Rattle.flow.specs.Inside.Tasks.{ExpIn, Evaluated, CmdIn, Tested}
@@ -44,7 +45,7 @@ module _ {Mark Seen Context : Type 0} (𝓜 : Marking Mark Seen Context) (place 
 
 -- ── by the words of a test ──────────────────────────────────────────────────────────────────
 
-module _ (run : Run) (work : List ℕ) (n context x : ℕ) (evaluated : Evaluated run work (slot_at run.parts.nodes.now n 0) x) where
+module _ (run : Run) (work : List Held) (n context x : ℕ) (evaluated : Evaluated run work (slot_at run.parts.nodes.now n 0) x) where
   abbrev 𝓢 : Meaning
   𝓢 = meaning run
 
@@ -87,7 +88,7 @@ test_below {s} nodes n i h =
     (λ k. held_there nodes n i 8 0 (eqb-true _ _ k) (omega arith))
     (λ k. held_there nodes n i 9 0 (omega (arith, eqb-false (kind_at s n) 8 k)) (omega arith))
 
-pub test_in : {run : Run} {work : List ℕ} {n context : ℕ} → CmdIn run work n context → 8 ≤ kind_at run.parts.nodes.now n
+pub test_in : {run : Run} {work : List Held} {n context : ℕ} → CmdIn run work n context → 8 ≤ kind_at run.parts.nodes.now n
     → ExpIn run work (slot_at run.parts.nodes.now n 0)
 test_in p h =
     let inside = p.inside in

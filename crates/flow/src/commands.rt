@@ -6,12 +6,12 @@ ghost use Rattle.flow.specs.Inside.Tasks.{CmdIn, Assigned, Tested, Ran};
 
 use crate::eval::expression;
 use basis::numbers;
-use marks::Run;
 use marks::words::{STOP, left_in, mark_in, stop, value_in, with_left, word};
+use marks::{Cell, Run};
 use nodes::{kind_of, slot};
 
 // Field a := expression b. Answers 0, or a stop.
-fn assign(run: &Run, work: &mut [u64; 64], n: usize, context: u32) -> u64
+fn assign(run: &Run, work: &mut [Cell; 64], n: usize, context: u32) -> u64
     requires { CmdIn run.now work.old n context × (kind_at run.now.parts.nodes.now n ≡ 6) }
     ensures { Assigned run.now work.old n context work.new result }
 {
@@ -20,16 +20,19 @@ fn assign(run: &Run, work: &mut [u64; 64], n: usize, context: u32) -> u64
         return x;
     }
     let a = slot(run.parts.nodes, n, 0);
-    let mark = run.store(context, n, mark_in(work[a]), mark_in(x));
+    let mark = run.store(context, n, work[a].mark, mark_in(x));
     if STOP <= mark {
         return mark;
     }
-    work[a] = word(value_in(x), mark as u32);
+    work[a] = Cell {
+        value: value_in(x),
+        mark: mark as u32,
+    };
     0
 }
 
 // The test of an if or a while. Answers its value with the context after it in the mark's place, or a stop.
-fn test(run: &Run, work: &[u64; 64], n: usize, context: u32) -> u64
+fn test(run: &Run, work: &[Cell; 64], n: usize, context: u32) -> u64
     requires { CmdIn run.now work.now n context × (8 ≤ kind_at run.now.parts.nodes.now n) }
     ensures { Tested run.now work.now n context result }
 {
@@ -45,7 +48,7 @@ fn test(run: &Run, work: &[u64; 64], n: usize, context: u32) -> u64
 }
 
 // A skip, or an assignment, once its unit is spent. Answers the fuel left, or a stop.
-fn single(run: &Run, work: &mut [u64; 64], n: usize, context: u32, left: u32) -> u64
+fn single(run: &Run, work: &mut [Cell; 64], n: usize, context: u32, left: u32) -> u64
     requires { CmdIn run.now work.old n context × (kind_at run.now.parts.nodes.now n < 7) }
     ensures { Ran run.now work.old n context (suc left) work.new result }
 {
@@ -60,7 +63,7 @@ fn single(run: &Run, work: &mut [u64; 64], n: usize, context: u32, left: u32) ->
 }
 
 // The command at node `first`, in the context `start`. Answers the fuel left, or a stop.
-pub fn execute(run: &Run, work: &mut [u64; 64], first: usize, start: u32, fuel: u32) -> u64
+pub fn execute(run: &Run, work: &mut [Cell; 64], first: usize, start: u32, fuel: u32) -> u64
     requires { CmdIn run.now work.old first start }
     ensures { Ran run.now work.old first start fuel work.new result }
 {

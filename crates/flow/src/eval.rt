@@ -8,9 +8,9 @@ ghost use Rattle.marks.specs.Inside.Meanings.{meaning, Joins};
 ghost use Rattle.flow.specs.Inside.Tasks.{ExpIn, Evaluated, Operated};
 
 use basis::numbers;
-use marks::Run;
 use marks::parts::constant_at;
 use marks::words::{STOP, mark_in, stop, value_in, word};
+use marks::{Cell, Run};
 use nodes::{kind_of, op_of, slot};
 use value::Computed;
 
@@ -27,7 +27,7 @@ fn operate(run: &Run, left: u64, n: usize, right: u64) -> u64
 }
 
 // The constant or the field at node n.
-fn leaf(run: &Run, work: &[u64; 64], n: usize) -> u64
+fn leaf(run: &Run, work: &[Cell; 64], n: usize) -> u64
     requires { ExpIn run.now work.now n × (kind_at run.now.parts.nodes.now n < 2) }
     ensures { Evaluated run.now work.now n result × Goes result }
 {
@@ -35,14 +35,14 @@ fn leaf(run: &Run, work: &[u64; 64], n: usize) -> u64
     let a = slot(nodes, n, 0);
     if kind_of(nodes, n) == 1 {
         let held = work[a];
-        return word(value_in(held), run.read(a, mark_in(held)));
+        return word(held.value, run.read(a, held.mark));
     }
     word(constant_at(run.parts.constants, a), run.constant())
 }
 
 // The expression at node n. An operator on two leaves, as most are, is answered without a frame.
 #[cycle(eval_expression)]
-pub fn expression(run: &Run, work: &[u64; 64], n: usize) -> u64
+pub fn expression(run: &Run, work: &[Cell; 64], n: usize) -> u64
     requires { ExpIn run.now work.now n }
     ensures { Evaluated run.now work.now n result }
 {
@@ -63,7 +63,7 @@ pub fn expression(run: &Run, work: &[u64; 64], n: usize) -> u64
 
 // The same by its parts.
 #[cycle(eval_expression)]
-fn eval(run: &Run, work: &[u64; 64], n: usize) -> u64
+fn eval(run: &Run, work: &[Cell; 64], n: usize) -> u64
     requires { ExpIn run.now work.now n }
     ensures { Evaluated run.now work.now n result }
 {

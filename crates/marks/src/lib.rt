@@ -14,7 +14,23 @@ ghost use Rattle.marks.specs.Inside.Meanings.{meaning, Constant, Sealed, Read, J
 
 use basis::numbers;
 use sections::Parts;
+use value::Value;
 use words::stop;
+
+/// A field in a run: its value, and its mark by its number.
+#[derive(Clone, Copy)]
+pub struct Cell {
+    pub value: Value,
+    pub mark: u32,
+}
+
+impl Cell {
+    /// What stands in a work store beyond its fields.
+    pub const BLANK: Cell = Cell {
+        value: Value { n: 0 },
+        mark: 0,
+    };
+}
 
 /// What a run does where its context lies not at or below a field's level: it stops, or lowers the field.
 #[derive(Clone, Copy, Debug, PartialEq, Eq)]

@@ -10,35 +10,36 @@ use Rattle.rules.specs.Ends.{End, done, spent, stopped, choose}
 use Rattle.rules.specs.Rules.{operated, eval, tested, exec}
 use Rattle.store.specs.Marks.{mark_of}
 use Rattle.store.specs.Stores.{store_of}
-use Rattle.marks.specs.Inside.Words.{stop_from, value_in, mark_in, cell_in, work_of, Stops, Goes, left_in, place_in, number_in, why_of, Numbered, Answers}
+use Rattle.marks.specs.Inside.Words.{stop_from, blank, value_in, mark_in, cell_in, work_of, Stops, Goes, left_in, place_in, number_in, why_of, Numbered, Answers}
 use Rattle.marks.specs.Inside.Meanings.{meaning}
+use Rattle.marks.specs.declared.Cell.{Cell}
 use Rattle.marks.specs.declared.Run.{Run}
 
 -- a work store filled from a store: the same cells
-pub record Fetched (store work : List ℕ) : Type 0 where
+pub record Fetched (store : List ℕ) (work : List Cell) : Type 0 where
   pub is : work_of mark_of work ≡ store_of store
   pub long : length work ≡ 64
 
--- what a run works on: well-formed nodes for the counts, and a word with a known mark for each field, blank words beyond
-pub record Ready (run : Run) (work : List ℕ) : Type 0 where
+-- what a run works on: well-formed nodes for the counts, and a cell with a known mark for each field, blank ones beyond
+pub record Ready (run : Run) (work : List Cell) : Type 0 where
   pub askable : (meaning run).Askable
   pub fields : ℕ
   pub few-fields : fields ≤ 64
   pub formed : WellFormed run.parts.nodes.now fields (length run.parts.constants.now / 4)
   pub few-nodes : length run.parts.nodes.now ≤ 8192
   pub long : length work ≡ 64
-  pub words : (i : ℕ) → (meaning run).KnownMark (mark_in (get_or work i 0))
+  pub words : (i : ℕ) → (meaning run).KnownMark (get_or work i blank).mark
 
 -- ── expressions ─────────────────────────────────────────────────────────────────────────────
 
 -- node n is an expression
-pub record ExpIn (run : Run) (work : List ℕ) (n : ℕ) : Type 0 where
+pub record ExpIn (run : Run) (work : List Cell) (n : ℕ) : Type 0 where
   pub ready : Ready run work
   pub inside : In run.parts.nodes.now n
   pub sort : kind_at run.parts.nodes.now n ≤ 4
 
 -- the word r has what the expression at node n gives
-abbrev pub Evaluated : Run → List ℕ → ℕ → ℕ → Type 0
+abbrev pub Evaluated : Run → List Cell → ℕ → ℕ → Type 0
 Evaluated run work n r =
     let 𝓢 = meaning run in
     Answers (cell_in 𝓢.seen_of) (λ w. 𝓢.KnownSeen (mark_in w)) (eval 𝓢.marking (exp_at run.parts.constants.now run.parts.nodes.now n) (work_of 𝓢.mark_of work)) r
@@ -75,14 +76,14 @@ pub record Told (word : ℕ) : Type 0 where
   pub nothing : number_in word ≡ numbers.fuel_spent → left_in word ≡ 0
 
 -- node n is a command, and the context is known
-pub record CmdIn (run : Run) (work : List ℕ) (n context : ℕ) : Type 0 where
+pub record CmdIn (run : Run) (work : List Cell) (n context : ℕ) : Type 0 where
   pub ready : Ready run work
   pub inside : In run.parts.nodes.now n
   pub sort : 5 ≤ kind_at run.parts.nodes.now n
   pub context-known : (meaning run).KnownContext context
 
 -- the word r has what the test of node n comes to, once its unit is spent
-pub record Tested (run : Run) (work : List ℕ) (n context r : ℕ) : Type 0 where
+pub record Tested (run : Run) (work : List Cell) (n context r : ℕ) : Type 0 where
   pub is : (left : ℕ) (yes_side no_side : (meaning run).Context → ℕ → End (meaning run).Mark)
       → test_of (meaning run).context_of r left yes_side no_side
       ≡ tested (meaning run).marking n (exp_at run.parts.constants.now run.parts.nodes.now (slot_at run.parts.nodes.now n 0))
@@ -91,7 +92,7 @@ pub record Tested (run : Run) (work : List ℕ) (n context r : ℕ) : Type 0 whe
   pub number : Numbered r
 
 -- the word r and the work store have what the assignment at node n comes to, once its unit is spent
-pub record Assigned (run : Run) (work : List ℕ) (n context : ℕ) (after : List ℕ) (r : ℕ) : Type 0 where
+pub record Assigned (run : Run) (work : List Cell) (n context : ℕ) (after : List Cell) (r : ℕ) : Type 0 where
   pub is : (left : ℕ) → or_stop r left (done (work_of (meaning run).mark_of after) left)
       ≡ exec (meaning run).marking (cmd_at run.parts.constants.now run.parts.nodes.now n)
       ((meaning run).context_of context) (work_of (meaning run).mark_of work) (suc left)
@@ -99,7 +100,7 @@ pub record Assigned (run : Run) (work : List ℕ) (n context : ℕ) (after : Lis
   pub number : Numbered r
 
 -- the word r and the work store have what the command at node n comes to
-pub record Ran (run : Run) (work : List ℕ) (n context fuel : ℕ) (after : List ℕ) (r : ℕ) : Type 0 where
+pub record Ran (run : Run) (work : List Cell) (n context fuel : ℕ) (after : List Cell) (r : ℕ) : Type 0 where
   pub is : end_of r (work_of (meaning run).mark_of after)
       ≡ exec (meaning run).marking (cmd_at run.parts.constants.now run.parts.nodes.now n)
       ((meaning run).context_of context) (work_of (meaning run).mark_of work) fuel

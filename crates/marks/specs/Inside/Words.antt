@@ -1,20 +1,20 @@
 -- How the functions of a run answer, in one number. Only contracts inside the product cite it, never a public call.
 --
 --   bits                0 to 31         32 to 47   48 to 55                     56 to 62   63
---   a field             value           mark       free: 16 bits, for a note
 --   an expression       value           mark       free, for a field             0         0
 --   a stop              fuel left       place      free, for a field             number    1
 --   a run that is done  fuel left       0          0                             0         0
 --   a test              value           context    0                             0         0
 --
--- To a run, bits 32 to 63 of a field and 32 to 62 of an expression are one number, the mark's. What stands inside a mark's number and a
+-- To a run, bits 32 to 62 of an expression are one number, the mark's. What stands inside a mark's number and a
 -- context's number is a matter of `Meanings`.
-use Rattle.std.specs.Prelude.{ℕ, ◌-◌, ◌/◌, ◌%◌, ◌≤◌, ◌<◌, ◌≡◌, cond, List, [], ◌∷◌, get_or, ltb}
+use Rattle.std.specs.Prelude.{ℕ, pos, ◌-◌, ◌/◌, ◌%◌, ◌≤◌, ◌<◌, ◌≡◌, cond, List, [], ◌∷◌, get_or, ltb}
 use Rattle.basis.specs.Numbers as numbers
 use Rattle.value.specs.Bytes.{of_bits}
 use Rattle.value.specs.declared.Value.{Value}
 use Rattle.rules.specs.Ends.{Why, out_of_range, divisor_zero, not_below, partial_test, Result, gives, stops}
 use Rattle.store.specs.Cells.{Cell, cell, Store}
+use Rattle.marks.specs.declared.Cell.{Cell as Held}
 
 -- ── the layouts ─────────────────────────────────────────────────────────────────────────────
 
@@ -53,16 +53,22 @@ value_in word = record { n = of_bits (word % upper_half) }
 abbrev pub mark_in : ℕ → ℕ
 mark_in word = word / upper_half
 
+abbrev pub blank : Held
+blank = record { value = record { n = pos 0 }; mark = 0 }
+
 -- by what marks' numbers stand for
 module _ {A : Type 0} (of : ℕ → A) where
   abbrev pub cell_in : ℕ → Cell A
   cell_in word = cell (value_in word) (of (mark_in word))
 
-  -- a work store has such a word for each field
-  unfoldable pub work_at : List ℕ → ℕ → Cell A
-  work_at work i = cell_in (get_or work i 0)
+  abbrev pub cell_of : Held → Cell A
+  cell_of held = cell held.value (of held.mark)
 
-  abbrev pub work_of : List ℕ → Store A
+  -- a work store has a cell for each field, and blank ones beyond
+  unfoldable pub work_at : List Held → ℕ → Cell A
+  work_at work i = cell_of (get_or work i blank)
+
+  abbrev pub work_of : List Held → Store A
   work_of work = work_at work
 
 -- a word made of a value and a mark's number

@@ -5,6 +5,7 @@ use mathlib.Core.List.{List}
 use mathlib.Core.Path.{◌≡◌, sym, ap, ◌∙◌}
 use Rattle.value.specs.Values.{is_true}
 use Rattle.nodes.specs.Nodes.{kind_at}
+use Rattle.marks.specs.declared.Cell.{Cell as Held}
 use Rattle.marks.specs.declared.Run.{Run}
 use Rattle.flow.specs.Inside.Tasks.{CmdIn}
 use Rattle.flow.proofs.Ends.{bit-few}
@@ -20,7 +21,7 @@ spent some = omega arith
 a_test : {kind got : ℕ} → got ≡ kind → (got ≡ 7 → ⊥) → 7 ≤ got → 8 ≤ kind
 a_test is sequence single = omega arith
 
-a_while : {run : Run} {work : List ℕ} {n context got : ℕ} → CmdIn run work n context → got ≡ kind_at run.parts.nodes.now n → 8 ≤ kind_at run.parts.nodes.now n → (got ≡ 8 → ⊥)
+a_while : {run : Run} {work : List Held} {n context got : ℕ} → CmdIn run work n context → got ≡ kind_at run.parts.nodes.now n → 8 ≤ kind_at run.parts.nodes.now n → (got ≡ 8 → ⊥)
     → kind_at run.parts.nodes.now n ≡ 9
 a_while command is test if = omega (arith, command.ready.formed.kind _ command.inside)
 

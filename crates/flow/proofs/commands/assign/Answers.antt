@@ -23,20 +23,20 @@ store-mark-requires c =
     record {
       askable = p.ready.askable;
       context-known = p.context-known;
-      mark = rw (c.mark_in.ensures, c.slot-a.ensures.0) (field-known p c.requires.1);
-      seen = rw c.mark_in-2.ensures (gave.known c.if-x-ge-STOP.false);
+      mark = rw c.slot-a.ensures.0 (field-known p c.requires.1);
+      seen = rw c.mark_in.ensures (gave.known c.if-x-ge-STOP.false);
       few = omega arith;
     }
 
 pub returns-then-mark-ge-STOP : goal.returns-then-mark-ge-STOP
 returns-then-mark-ge-STOP c =
     let gave = rw c.slot.ensures.0 at c.expression-x.ensures in
-    let stored = rw (c.mark_in.ensures, c.slot-a.ensures.0, c.mark_in-2.ensures) at c.store-mark.ensures in
+    let stored = rw (c.slot-a.ensures.0, c.mark_in.ensures) at c.store-mark.ensures in
     assigned_refused c.requires.0 c.requires.1 gave c.if-x-ge-STOP.false stored c.if-mark-ge-STOP.true
 
-pub overflow_cast-mark : goal.overflow_cast-mark
-overflow_cast-mark c =
-    let stored = rw (c.mark_in.ensures, c.slot-a.ensures.0, c.mark_in-2.ensures) at c.store-mark.ensures in
+pub overflow_cast-work : goal.overflow_cast-work
+overflow_cast-work c =
+    let stored = rw (c.slot-a.ensures.0, c.mark_in.ensures) at c.store-mark.ensures in
     let few = (stored.known c.if-mark-ge-STOP.false).1 in
     omega arith
 
@@ -46,6 +46,5 @@ bounds-work-a-2 c = rw c.slot-a.ensures.0 (field-few c.requires.0 c.requires.1)
 pub returns : goal.returns
 returns c =
     let gave = rw c.slot.ensures.0 at c.expression-x.ensures in
-    let stored = rw (c.mark_in.ensures, c.slot-a.ensures.0, c.mark_in-2.ensures) at c.store-mark.ensures in
-    rw c.slot-a.ensures.0
-    (assigned_done c.requires.0 c.requires.1 gave c.if-x-ge-STOP.false stored c.if-mark-ge-STOP.false (rw c.value_in.ensures at c.word.ensures))
+    let stored = rw (c.slot-a.ensures.0, c.mark_in.ensures) at c.store-mark.ensures in
+    rw (c.slot-a.ensures.0, c.value_in.ensures) (assigned_done c.requires.0 c.requires.1 gave c.if-x-ge-STOP.false stored c.if-mark-ge-STOP.false)

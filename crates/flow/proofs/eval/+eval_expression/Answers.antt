@@ -6,6 +6,7 @@ use mathlib.Core.List.{List}
 use Rattle.value.specs.Values.{not_of}
 use Rattle.nodes.specs.Nodes.{kind_at, slot_at}
 use Rattle.marks.specs.Inside.Words.{Goes}
+use Rattle.marks.specs.declared.Cell.{Cell as Held}
 use Rattle.marks.specs.declared.Run.{Run}
 use Rattle.flow.specs.Inside.Tasks.{ExpIn, Evaluated}
 use Rattle.flow.proofs.Expressions.{left_below, right-below, child_in_lem, left_stop_word, not_word, seal_word, right_stop_word, operator_word}
@@ -13,7 +14,7 @@ use Rattle.flow.proofs.eval.+eval_expression.Goals as goal
 use Rattle.flow.proofs.eval.+eval_expression.Goals.{eval-then-kind_of-lt2, eval-else-kind_of-lt2+else-x-ge-STOP, eval-then-kind_of-lt2-2, eval-else-kind_of-lt2-2+else-y-ge-STOP}
 
 -- the children are lower expressions
-module _ {run : Run} {work : List ℕ} {n : ℕ} (p : ExpIn run work n) where
+module _ {run : Run} {work : List Held} {n : ℕ} (p : ExpIn run work n) where
   first_child : {a : ℕ} → a ≡ slot_at run.parts.nodes.now n 0 → 2 ≤ kind_at run.parts.nodes.now n → (a < n) × ExpIn run work a
   first_child is kind = rw is (child_in_lem p (left_below p.ready.formed _ p.inside kind p.sort))
 

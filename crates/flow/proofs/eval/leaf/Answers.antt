@@ -18,11 +18,11 @@ bounds-work-a c =
     omega (arith, c.slot-a.ensures.0, held_field p.ready.formed _ p.inside (sym c.kind_of.ensures ∙ c.if-kind_of-eq1.true))
 
 pub read-requires : goal.read-requires
-read-requires c = rw c.mark_in.ensures (c.requires.0.ready.words _)
+read-requires c = c.requires.0.ready.words _
 
 pub returns-then-kind_of-eq1 : goal.returns-then-kind_of-eq1
 returns-then-kind_of-eq1 c =
-    field_word c.requires.0 (sym c.kind_of.ensures ∙ c.if-kind_of-eq1.true) c.slot-a.ensures.0 c.value_in.ensures c.mark_in.ensures c.read.ensures c.word.ensures
+    field_word c.requires.0 (sym c.kind_of.ensures ∙ c.if-kind_of-eq1.true) c.slot-a.ensures.0 c.read.ensures c.word.ensures
 
 pub constant_at-requires : goal.constant_at-requires
 unfolding held_in kinds
