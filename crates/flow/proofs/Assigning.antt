@@ -13,14 +13,15 @@ use Rattle.value.specs.declared.Value.{Value}
 use Rattle.nodes.specs.Nodes.{kind_at, slot_at, kinds, held_in}
 use Rattle.sheet.specs.Trees.{Exp, Cmd, assign, exp_at, cmd_at}
 use Rattle.sheet.proofs.Trees.{held_there, cmd_at-assign}
-use Rattle.rules.specs.Ends.{Why, gives, stops, End, done, stopped, at, and_then, with, spend}
+use Rattle.rules.specs.Ends.{Why, Result, gives, stops, End, done, stopped, at, and_then, with, spend}
 use Rattle.rules.specs.Rules.{Marking, put, eval, updated, exec}
 use Rattle.store.specs.Cells.{Cell, cell, Store}
 use Rattle.rules.proofs.Units.{assign_law}
-use Rattle.marks.specs.Inside.Words.{blank, value_in, mark_in, cell_of, work_at, work_of, Goes, Stops}
+use Rattle.marks.specs.Inside.Words.{blank, value_in, mark_in, cell_of, work_at, work_of, Goes, Stops, why_of, Stop, Met}
 use Rattle.marks.specs.declared.Cell.{Cell as Held}
 use Rattle.marks.specs.declared.Run.{Run}
-use Rattle.marks.specs.Inside.Meanings.{Meaning, meaning, Stored}
+use Rattle.marks.specs.Inside.Meanings.{Meaning, meaning}
+use Rattle.marks.specs.declared.Stop.{Stop as Halt}
 use Rattle.flow.specs.Inside.Tasks.{Ready, ExpIn, Evaluated, CmdIn, Assigned}
 use Rattle.marks.proofs.Results.{goes_number, answer-gives, answer-stops}
 use Rattle.flow.proofs.Ends.{or_next, or_stopped}
@@ -131,31 +132,33 @@ module _ {run : Run} {work : List Held} {n context : ℕ} (p : CmdIn run work n 
       number = evaluated.number;
     }
 
-    module _ (goes : Goes x) {k : ℕ} (stored : Stored 𝓢 n context (get_or work field blank).mark (mark_in x) k) where
+    module _ (goes : Goes x) where
+      abbrev left_there : Result 𝓢.Mark
+      left_there = at n (𝓢.marking.store n (𝓢.context_of context) (𝓢.mark_of (get_or work field blank).mark) (𝓢.seen_of (mark_in x)))
+
       -- the mark is refused
-      pub assigned_refused : Stops k → Assigned run work n context work k
+      pub assigned_refused : {s : Halt} → Met s.number × (left_there ≡ stops (why_of s.number) s.place) → {r : ℕ} → Stop s.number s.place 0 r → Assigned run work n context work r
       unfolding work_at
-      assigned_refused large =
-          let update = updated-stops 𝓢.marking n (𝓢.context_of context) (get_or work field blank).value (value_in x) _ _ _ _ (answer-stops stored large) in
+      assigned_refused refused {r} made =
+          let update = updated-stops 𝓢.marking n (𝓢.context_of context) (get_or work field blank).value (value_in x) _ _ _ _ refused.1 in
           record {
-            is = λ left. or_stopped k left _ large
-                ∙ sym (at-node (suc left) ∙ assign-refused 𝓢.marking _ _ field _ (work_of 𝓢.mark_of work) left _ (answer-gives evaluated goes) _ _ update);
+            is = λ left. or_stopped r left _ made.stops ∙ rw (made.number_is, made.place_is)
+                (sym (at-node (suc left) ∙ assign-refused 𝓢.marking _ _ field _ (work_of 𝓢.mark_of work) left _ (answer-gives evaluated goes) _ _ update));
             ready = p.ready;
-            number = stored.number;
+            number = λ _. rw made.number_is refused.0;
           }
 
       -- the field has its new cell
-      pub assigned_done : Goes k → Assigned run work n context (set work field record { value = value_in x; mark = k }) 0
+      pub assigned_done : (k : ℕ) → 𝓢.KnownMark k × (left_there ≡ gives (𝓢.mark_of k)) → Assigned run work n context (set work field record { value = value_in x; mark = k }) 0
       unfolding work_at
-      assigned_done fine =
+      assigned_done k stored =
           let held : Held = record { value = value_in x; mark = k } in
           let inside : field < length work = rw p.ready.long field-few in
-          let update = updated-gives 𝓢.marking n (𝓢.context_of context) (get_or work field blank).value (value_in x) _ _ _ (answer-gives stored fine) in
+          let update = updated-gives 𝓢.marking n (𝓢.context_of context) (get_or work field blank).value (value_in x) _ _ _ stored.1 in
           record {
             is = λ left. or_next 0 left _ (omega arith)
-                ∙ ap (λ (τ : Store 𝓢.Mark). done τ left)
-                (work_set 𝓢.mark_of work field held inside)
+                ∙ ap (λ (τ : Store 𝓢.Mark). done τ left) (work_set 𝓢.mark_of work field held inside)
                 ∙ sym (at-node (suc left) ∙ assign-done 𝓢.marking _ _ field _ (work_of 𝓢.mark_of work) left _ (answer-gives evaluated goes) _ update);
-            ready = ready-set held p.ready field-few (stored.known fine).0;
+            ready = ready-set held p.ready field-few stored.0;
             number = goes_number 0 (omega arith);
           }

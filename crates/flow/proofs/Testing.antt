@@ -12,13 +12,14 @@ use Rattle.nodes.specs.Nodes.{In, kind_at, slot_at, kinds, held_in}
 use Rattle.nodes.specs.Inside.Formed.{ExpBelow, WellFormed}
 use Rattle.sheet.specs.Trees.{Exp}
 use Rattle.sheet.proofs.Trees.{held_there}
-use Rattle.rules.specs.Ends.{Why, gives, stops, End, stopped, at, with, choose, spend}
+use Rattle.rules.specs.Ends.{Why, Result, gives, stops, End, stopped, at, with, choose, spend}
 use Rattle.rules.specs.Rules.{Marking, eval, branch, tested}
 use Rattle.store.specs.Cells.{cell, Store}
-use Rattle.marks.specs.Inside.Words.{value_in, mark_in, Word, Goes, Stops}
+use Rattle.marks.specs.Inside.Words.{Below, value_in, mark_in, Word, Goes, Stops, why_of, Stop, Met}
 use Rattle.marks.specs.declared.Cell.{Cell as Held}
 use Rattle.marks.specs.declared.Run.{Run}
-use Rattle.marks.specs.Inside.Meanings.{Meaning, meaning, Entered}
+use Rattle.marks.specs.Inside.Meanings.{Meaning, meaning}
+use Rattle.marks.specs.declared.Stop.{Stop as Halt}
 use Rattle.flow.specs.Inside.Tasks.{ExpIn, Evaluated, CmdIn, Tested}
 use Rattle.marks.proofs.Results.{goes_number, answer-gives, answer-stops}
 use Rattle.flow.proofs.Ends.{test_stopped, test_side}
@@ -56,25 +57,28 @@ module _ (run : Run) (work : List Held) (n context x : ℕ) (evaluated : Evaluat
     number = evaluated.number;
   }
 
-  module _ (goes : Goes x) {k : ℕ} (entered : Entered 𝓢 n context (mark_in x) k) where
-    pub test_refused : Stops k → Tested run work n context k
-    test_refused large = record {
-      is = λ left yes_side no_side. test_stopped _ k left yes_side no_side large
-          ∙ sym (tested-refused _ _ _ _ _ left yes_side no_side _ _ (answer-gives evaluated goes) _ _ (answer-stops entered large));
-      context-known = λ small. absurd (omega arith);
-      number = entered.number;
+  module _ (goes : Goes x) where
+    abbrev after : Result 𝓢.Context
+    after = at n (𝓢.marking.enter (𝓢.context_of context) (𝓢.seen_of (mark_in x)))
+
+    pub test_refused : {s : Halt} → Met s.number × (after ≡ stops (why_of s.number) s.place) → {r : ℕ} → Stop s.number s.place 0 r → Tested run work n context r
+    test_refused refused {r} made = record {
+      is = λ left yes_side no_side. test_stopped _ r left yes_side no_side made.stops
+          ∙ rw (made.number_is, made.place_is) (sym (tested-refused _ _ _ _ _ left yes_side no_side _ _ (answer-gives evaluated goes) _ _ refused.1));
+      context-known = λ small. absurd (omega (arith, made.stops));
+      number = λ _. rw made.number_is refused.0;
     }
 
     -- the test's value with the context after it
-    pub goes_on : Goes k → {r : ℕ} → Word (value_in x) k r → Tested run work n context r
-    goes_on fine {r} made =
-        let few = (entered.known fine).1 in
+    pub goes_on : {k : ℕ} → (𝓢.KnownContext k × Below k) × (after ≡ gives (𝓢.context_of k)) → {r : ℕ} → Word (value_in x) k r → Tested run work n context r
+    goes_on entered {r} made =
+        let few = entered.0.1 in
         let low : Goes r = omega (arith, made.mark-is) in
         record {
           is = λ left yes_side no_side. test_side 𝓢.context_of r left yes_side no_side low
               ∙ rw (made.value, made.mark-is)
-              (sym (tested_goes _ _ _ _ _ left yes_side no_side _ _ (answer-gives evaluated goes) _ (answer-gives entered fine)));
-          context-known = λ _. rw made.mark-is (entered.known fine).0;
+              (sym (tested_goes _ _ _ _ _ left yes_side no_side _ _ (answer-gives evaluated goes) _ entered.1));
+          context-known = λ _. rw made.mark-is entered.0.0;
           number = goes_number r low;
         }
 

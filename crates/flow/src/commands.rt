@@ -20,15 +20,16 @@ fn assign(run: &Run, work: &mut [Cell; 64], n: usize, context: u32) -> u64
         return x;
     }
     let a = slot(run.parts.nodes, n, 0);
-    let mark = run.store(context, n, work[a].mark, mark_in(x));
-    if STOP <= mark {
-        return mark;
+    match run.store(context, n, work[a].mark, mark_in(x)) {
+        Ok(mark) => {
+            work[a] = Cell {
+                value: value_in(x),
+                mark,
+            };
+            0
+        }
+        Err(refused) => stop(refused.number, refused.place as usize),
     }
-    work[a] = Cell {
-        value: value_in(x),
-        mark: mark as u32,
-    };
-    0
 }
 
 // The test of an if or a while. Answers its value with the context after it in the mark's place, or a stop.
@@ -40,11 +41,10 @@ fn test(run: &Run, work: &[Cell; 64], n: usize, context: u32) -> u64
     if STOP <= x {
         return x;
     }
-    let after = run.enter(context, n, mark_in(x));
-    if STOP <= after {
-        return after;
+    match run.enter(context, n, mark_in(x)) {
+        Ok(after) => word(value_in(x), after),
+        Err(refused) => stop(refused.number, refused.place as usize),
     }
-    word(value_in(x), after as u32)
 }
 
 // A skip, or an assignment, once its unit is spent. Answers the fuel left, or a stop.

@@ -12,11 +12,11 @@ use Rattle.levels.proofs.Laws.{laws}
 use Rattle.rules.specs.Ends.{gives, at}
 use Rattle.store.specs.Marks.{Mark, whole, partial, level_of, is_partial, mark_of, byte_of, strict, permissive, mark_known}
 use Rattle.rules.specs.LevelMarks.{joined, entered}
-use Rattle.marks.specs.Inside.Words.{why_of, Stop}
+use Rattle.marks.specs.Inside.Words.{why_of}
 use Rattle.marks.specs.Inside.Meanings.{Meaning, Constant, Sealed, Joined, Entered, Stored, rows_in, LevelRun, StandsFor, meaning}
 use Rattle.marks.specs.Inside.Modes.{mode_in}
 use Rattle.marks.specs.declared.Run.{Run}
-use Rattle.marks.proofs.Results.{answers_gives, answers_stops}
+use Rattle.std.specs.Prelude.{Ok, Err}
 use Rattle.store.proofs.Marks.{byte_back, is_whole, is_partial_lem, known_is}
 use Rattle.marks.proofs.Marking.{joined_same, joined_above, level-mark, stored-below, stored-strict, stored_permissive}
 
@@ -47,20 +47,20 @@ module _ (run : Run) where
   join-level m k g = record { is = g.0; known = g.1; few = omega (arith, few g) }
 
   module _ (n context m : ℕ) (h : right rows ≡ true) (level : context < count rows) where
-    pub enter_partial : {left r : ℕ} → is_partial (mark_of m) ≡ true → Stop numbers.partial_test n left r → Entered 𝓢 n context m r
+    pub enter_partial : is_partial (mark_of m) ≡ true → Entered 𝓢 n context m (Err record { number = numbers.partial_test; place = n })
     unfolding why_of at entered meaning
-    enter_partial is s = answers_stops s (omega arith, omega arith) (rw (is_partial_lem (mark_of m) is))
+    enter_partial is = ((omega arith, omega arith), rw (is_partial_lem (mark_of m) is))
 
-    pub enter-whole : {r : ℕ} → is_partial (mark_of m) ≡ false → StandsFor rows (joined (lattice rows) (mark_of context) (mark_of m)) r → Entered 𝓢 n context m r
+    pub enter-whole : {r : ℕ} → is_partial (mark_of m) ≡ false → StandsFor rows (joined (lattice rows) (mark_of context) (mark_of m)) r → Entered 𝓢 n context m (Ok r)
     unfolding at entered joined meaning
     enter-whole {r} is g =
         let whole_m = is_whole (mark_of m) is in
         let join : mark_of r ≡ whole ((lattice rows).join context (level_of (mark_of m))) = g.0 ∙ rw ((level-mark rows h context level).0, whole_m) in
         let same : r ≡ (lattice rows).join context (level_of (mark_of m)) = sym (byte_back r) ∙ ap byte_of join in
-        answers_gives (omega (arith, few g)) (rw whole_m (ap gives (sym same))) (rw same (rw join at (known_is _ r g.1).1), omega (arith, few g))
+        ((rw same (rw join at (known_is _ r g.1).1), omega (arith, few g)), rw whole_m (ap gives (sym same)))
 
     -- a test at the context's own level leaves the context
-    pub enter-same : m ≡ context → Entered 𝓢 n context m m
+    pub enter-same : m ≡ context → Entered 𝓢 n context m (Ok m)
     enter-same e =
         let (is, known, small) = level-mark rows h context level in
         enter-whole (rw (e, is)) (rw e (joined_same rows context h known, known))
@@ -72,29 +72,25 @@ module _ (run : Run) where
           let (is, known, small) = level-mark rows h context level in
           rw (e, is) ((laws rows h).le_refl context)
 
-      pub store_below : {r : ℕ} → (lattice rows).le context (level_of (mark_of old)) ≡ true → StandsFor rows (joined (lattice rows) (mark_of m) (mark_of context)) r
-          → Stored 𝓢 n context old m r
+      pub store_below : (r : ℕ) → (lattice rows).le context (level_of (mark_of old)) ≡ true → StandsFor rows (joined (lattice rows) (mark_of m) (mark_of context)) r
+          → Stored 𝓢 n context old m (Ok r)
       unfolding at meaning
-      store_below {r} le g =
+      store_below r le g =
           let (is, known, small) = level-mark rows h context level in
-          let most = few g in
-          answers_gives (omega arith) (rw (stored-below (lattice rows) (mode_in run.mode) context (level_of (mark_of old)) (mark_of m) le) (ap gives (rw (← is) (sym g.0))))
-          (g.1, omega arith)
+          (g.1, rw (stored-below (lattice rows) (mode_in run.mode) context (level_of (mark_of old)) (mark_of m) le) (ap gives (rw (← is) (sym g.0))))
 
       -- a field that keeps its mark
-      pub store_kept : (lattice rows).le context (level_of (mark_of old)) ≡ true → m ≡ old → mark_known (count rows) old ≡ true → Stored 𝓢 n context old m m
+      pub store_kept : (lattice rows).le context (level_of (mark_of old)) ≡ true → m ≡ old → mark_known (count rows) old ≡ true → Stored 𝓢 n context old m (Ok m)
       store_kept le e known =
-          store_below le (rw (e, (level-mark rows h context level).0) (joined_above rows old context h known le, known))
+          store_below _ le (rw (e, (level-mark rows h context level).0) (joined_above rows old context h known le, known))
 
-      pub store-strict : {left r : ℕ} → (lattice rows).le context (level_of (mark_of old)) ≡ false → mode_in run.mode ≡ strict → Stop numbers.not_below n left r → Stored 𝓢 n context old m r
+      pub store-strict : (lattice rows).le context (level_of (mark_of old)) ≡ false → mode_in run.mode ≡ strict → Stored 𝓢 n context old m (Err record { number = numbers.not_below; place = n })
       unfolding why_of at meaning
-      store-strict le mode s =
-          answers_stops s (omega arith, omega arith) (rw (stored-strict (lattice rows) (mode_in run.mode) context (level_of (mark_of old)) (mark_of m) le mode))
+      store-strict le mode =
+          ((omega arith, omega arith), rw (stored-strict (lattice rows) (mode_in run.mode) context (level_of (mark_of old)) (mark_of m) le mode))
 
-      pub store_lowered : {r : ℕ} → (lattice rows).le context (level_of (mark_of old)) ≡ false → mode_in run.mode ≡ permissive
-          → StandsFor rows (partial ((lattice rows).meet context (level_of (mark_of old)))) r → Stored 𝓢 n context old m r
+      pub store_lowered : (r : ℕ) → (lattice rows).le context (level_of (mark_of old)) ≡ false → mode_in run.mode ≡ permissive
+          → StandsFor rows (partial ((lattice rows).meet context (level_of (mark_of old)))) r → Stored 𝓢 n context old m (Ok r)
       unfolding at meaning
-      store_lowered {r} le mode g =
-          let most = few g in
-          answers_gives (omega arith) (rw (stored_permissive (lattice rows) (mode_in run.mode) context (level_of (mark_of old)) (mark_of m) le mode) (ap gives (sym g.0)))
-          (g.1, omega arith)
+      store_lowered r le mode g =
+          (g.1, rw (stored_permissive (lattice rows) (mode_in run.mode) context (level_of (mark_of old)) (mark_of m) le mode) (ap gives (sym g.0)))

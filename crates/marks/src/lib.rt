@@ -15,7 +15,6 @@ ghost use Rattle.marks.specs.Inside.Meanings.{meaning, Constant, Sealed, Read, J
 use basis::numbers;
 use sections::Parts;
 use value::Value;
-use words::stop;
 
 /// A field in a run: its value, and its mark by its number.
 #[derive(Clone, Copy)]
@@ -30,6 +29,13 @@ impl Cell {
         value: Value { n: 0 },
         mark: 0,
     };
+}
+
+/// Why and where a run stops, by its number.
+#[derive(Clone, Copy, Debug, PartialEq, Eq)]
+pub struct Stop {
+    pub number: u8,
+    pub place: u16,
 }
 
 /// What a run does where its context lies not at or below a field's level: it stops, or lowers the field.
@@ -108,35 +114,41 @@ impl<'a> Run<'a> {
     }
 
     /// The context after the test at node n, or a stop. A test at the context's own level needs no rows.
-    pub fn enter(&self, context: u32, n: usize, m: u32) -> u64
+    pub fn enter(&self, context: u32, n: usize, m: u32) -> Result<u32, Stop>
         requires { Enters (meaning self.now) n context m }
         ensures { Entered (meaning self.now) n context m result }
     {
         if m == context {
-            return m as u64;
+            return Ok(m);
         }
         if store::is_partial(m) {
-            return stop(numbers::PARTIAL_TEST, n);
+            return Err(Stop {
+                number: numbers::PARTIAL_TEST,
+                place: n as u16,
+            });
         }
-        level_marks::join(self.parts.levels, context, m) as u64
+        Ok(level_marks::join(self.parts.levels, context, m))
     }
 
     /// The mark that the assignment at node n leaves on a field with the old mark, or a stop. A field at the context's own level needs no rows to
     /// say so, nor does one that keeps its mark.
-    pub fn store(&self, context: u32, n: usize, old: u32, m: u32) -> u64
+    pub fn store(&self, context: u32, n: usize, old: u32, m: u32) -> Result<u32, Stop>
         requires { Stores (meaning self.now) n context old m }
         ensures { Stored (meaning self.now) n context old m result }
     {
         let rows = self.parts.levels;
         if old == context || level_marks::at_or_below(rows, context, old) {
             if m == old {
-                return m as u64;
+                return Ok(m);
             }
-            return level_marks::join(rows, m, context) as u64;
+            return Ok(level_marks::join(rows, m, context));
         }
         match self.mode {
-            Mode::Strict => stop(numbers::NOT_BELOW, n),
-            Mode::Permissive => level_marks::lowered(rows, context, old) as u64,
+            Mode::Strict => Err(Stop {
+                number: numbers::NOT_BELOW,
+                place: n as u16,
+            }),
+            Mode::Permissive => Ok(level_marks::lowered(rows, context, old)),
         }
     }
 }

@@ -1,15 +1,16 @@
 -- What the numbers of marks mean. A run's functions ask about marks by their numbers, through this crate's questions alone, and the run
 -- says which marks they are. Nothing else in a run knows: each contract reads "whatever the numbers of this run mean".
-use Rattle.std.specs.Prelude.{ℕ, ◌<◌, ◌≡◌, true, List}
+use Rattle.std.specs.Prelude.{ℕ, Result as Outcome, ◌<◌, ◌≡◌, true, List}
 use Rattle.levels.specs.Levels.{count, right, lowest_of, highest_of}
 use Rattle.levels.specs.Lattice.{lattice}
 use Rattle.rules.specs.Rules.{Marking}
 use Rattle.rules.specs.Ends.{at}
 use Rattle.rules.specs.LevelMarks.{marking}
 use Rattle.store.specs.Marks.{Mark, mode_of, mark_of, mark_known}
-use Rattle.marks.specs.Inside.Words.{Half, Below, Place, Answers}
+use Rattle.marks.specs.Inside.Words.{Below, Place, Asked}
 use Rattle.marks.specs.Inside.Modes.{mode_in}
 use Rattle.sections.specs.declared.Parts.{Parts}
+use Rattle.marks.specs.declared.Stop.{Stop as Halt}
 use Rattle.marks.specs.declared.Run.{Run}
 
 pub record Meaning : Type 1 where
@@ -51,14 +52,14 @@ module _ (𝓢 : Meaning) where
   Joined m k r = Sees (𝓢.marking.join (𝓢.seen_of m) (𝓢.seen_of k)) r
 
   -- the context after the test at node n, or a stop there
-  abbrev pub Entered : ℕ → ℕ → ℕ → ℕ → Type 0
+  abbrev pub Entered : ℕ → ℕ → ℕ → Outcome ℕ Halt → Type 0
   Entered n context m r =
-      Answers 𝓢.context_of (λ c. 𝓢.KnownContext c × Below c) (at n (𝓢.marking.enter (𝓢.context_of context) (𝓢.seen_of m))) r
+      Asked 𝓢.context_of (λ c. 𝓢.KnownContext c × Below c) (at n (𝓢.marking.enter (𝓢.context_of context) (𝓢.seen_of m))) r
 
   -- the mark that the assignment at node n leaves, or a stop there
-  abbrev pub Stored : ℕ → ℕ → ℕ → ℕ → ℕ → Type 0
+  abbrev pub Stored : ℕ → ℕ → ℕ → ℕ → Outcome ℕ Halt → Type 0
   Stored n context old m r =
-      Answers 𝓢.mark_of (λ k. 𝓢.KnownMark k × Half k) (at n (𝓢.marking.store n (𝓢.context_of context) (𝓢.mark_of old) (𝓢.seen_of m))) r
+      Asked 𝓢.mark_of 𝓢.KnownMark (at n (𝓢.marking.store n (𝓢.context_of context) (𝓢.mark_of old) (𝓢.seen_of m))) r
 
   -- what each may be asked
   pub record Joins (m k : ℕ) : Type 0 where

@@ -8,13 +8,14 @@
 --
 -- To a run, bits 32 to 62 of an expression are one number, the mark's. What stands inside a mark's number and a
 -- context's number is a matter of `Meanings`.
-use Rattle.std.specs.Prelude.{ℕ, pos, ◌-◌, ◌/◌, ◌%◌, ◌≤◌, ◌<◌, ◌≡◌, cond, List, [], ◌∷◌, get_or, ltb}
+use Rattle.std.specs.Prelude.{ℕ, pos, Result as Outcome, MatchResult, ◌-◌, ◌/◌, ◌%◌, ◌≤◌, ◌<◌, ◌≡◌, cond, List, [], ◌∷◌, get_or, ltb}
 use Rattle.basis.specs.Numbers as numbers
 use Rattle.value.specs.Bytes.{of_bits}
 use Rattle.value.specs.declared.Value.{Value}
 use Rattle.rules.specs.Ends.{Why, out_of_range, divisor_zero, not_below, partial_test, Result, gives, stops}
 use Rattle.store.specs.Cells.{Cell, cell, Store}
 use Rattle.marks.specs.declared.Cell.{Cell as Held}
+use Rattle.marks.specs.declared.Stop.{Stop as Halt}
 
 -- ── the layouts ─────────────────────────────────────────────────────────────────────────────
 
@@ -115,6 +116,10 @@ Numbered word = Stops word → Met (number_in word)
 -- what a word has: what it stands for, or a stop
 unfoldable pub result_of : {A : Type 0} → (ℕ → A) → ℕ → Result A
 result_of of word = cond (ltb word stop_from) (gives (of word)) (stops (why_of (number_in word)) (place_in word))
+
+-- the answer r has the result x, and what it gives is known
+abbrev pub Asked : {A : Type 0} → (ℕ → A) → (ℕ → Type 0) → Result A → Outcome ℕ Halt → Type 0
+Asked of Known x r = MatchResult r (λ n. Known n × (x ≡ gives (of n))) (λ s. Met s.number × (x ≡ stops (why_of s.number) s.place))
 
 -- the word r has the result x, and what it gives is known
 pub record Answers {A : Type 0} (of : ℕ → A) (Known : ℕ → Type 0) (x : Result A) (r : ℕ) : Type 0 where

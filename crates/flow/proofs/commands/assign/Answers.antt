@@ -1,4 +1,5 @@
 -- What the expression gave, and the mark that is left on the field.
+use borrow.Author.Rules.{rules}
 use native.Mathlib.Omega.{arith}
 use Rattle.flow.proofs.Assigning.{field-few, field-known, source_in, assigned_stops, assigned_refused, assigned_done}
 use Rattle.flow.proofs.commands.assign.Goals as goal
@@ -14,8 +15,8 @@ returns-then-x-ge-STOP c =
 pub bounds-work-a : goal.bounds-work-a
 bounds-work-a c = rw c.slot-a.ensures.0 (field-few c.requires.0 c.requires.1)
 
-pub store-mark-requires : goal.store-mark-requires
-store-mark-requires c =
+pub store-requires : goal.store-requires
+store-requires c =
     let p = c.requires.0 in
     let few = p.ready.few-nodes in
     let inside = p.inside in
@@ -28,23 +29,22 @@ store-mark-requires c =
       few = omega arith;
     }
 
-pub returns-then-mark-ge-STOP : goal.returns-then-mark-ge-STOP
-returns-then-mark-ge-STOP c =
+pub bounds-work-a-in-Ok : goal.bounds-work-a-in-Ok
+bounds-work-a-in-Ok c = rw c.slot-a.ensures.0 (field-few c.requires.0 c.requires.1)
+
+pub returns-in-Ok : goal.returns-in-Ok
+returns-in-Ok c =
     let gave = rw c.slot.ensures.0 at c.expression-x.ensures in
-    let stored = rw (c.slot-a.ensures.0, c.mark_in.ensures) at c.store-mark.ensures in
-    assigned_refused c.requires.0 c.requires.1 gave c.if-x-ge-STOP.false stored c.if-mark-ge-STOP.true
+    let stored = rw (c.slot-a.ensures.0, c.mark_in.ensures) at c.in-Ok.ensures in
+    rw (c.slot-a.ensures.0, c.value_in.ensures) (assigned_done c.requires.0 c.requires.1 gave c.if-x-ge-STOP.false _ stored)
 
-pub overflow_cast-work : goal.overflow_cast-work
-overflow_cast-work c =
-    let stored = rw (c.slot-a.ensures.0, c.mark_in.ensures) at c.store-mark.ensures in
-    let few = (stored.known c.if-mark-ge-STOP.false).1 in
-    omega arith
+pub stop-requires : goal.stop-requires
+stop-requires c =
+    let met = c.in-Err.ensures.0 in
+    (omega (arith, met), search rules)
 
-pub bounds-work-a-2 : goal.bounds-work-a-2
-bounds-work-a-2 c = rw c.slot-a.ensures.0 (field-few c.requires.0 c.requires.1)
-
-pub returns : goal.returns
-returns c =
+pub returns-in-Err : goal.returns-in-Err
+returns-in-Err c =
     let gave = rw c.slot.ensures.0 at c.expression-x.ensures in
-    let stored = rw (c.slot-a.ensures.0, c.mark_in.ensures) at c.store-mark.ensures in
-    rw (c.slot-a.ensures.0, c.value_in.ensures) (assigned_done c.requires.0 c.requires.1 gave c.if-x-ge-STOP.false stored c.if-mark-ge-STOP.false)
+    let refused = rw (c.slot-a.ensures.0, c.mark_in.ensures) at c.in-Err.ensures in
+    assigned_refused c.requires.0 c.requires.1 gave c.if-x-ge-STOP.false refused c.stop.ensures

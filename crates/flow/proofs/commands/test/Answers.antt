@@ -1,4 +1,5 @@
 -- What the expression gave, and the context after the test.
+use borrow.Author.Rules.{rules}
 use native.Mathlib.Omega.{arith}
 use Rattle.flow.proofs.Testing.{expression_stops, test_refused, goes_on, test_in}
 use Rattle.flow.proofs.commands.test.Goals as goal
@@ -11,8 +12,8 @@ returns-then-x-ge-STOP c =
     let gave = rw c.slot.ensures.0 at c.expression-x.ensures in
     expression_stops _ _ _ _ _ gave c.if-x-ge-STOP.true
 
-pub enter-after-requires : goal.enter-after-requires
-enter-after-requires c =
+pub enter-requires : goal.enter-requires
+enter-requires c =
     let p = c.requires.0 in
     let few = p.ready.few-nodes in
     let inside = p.inside in
@@ -24,20 +25,19 @@ enter-after-requires c =
       few = omega arith;
     }
 
-pub returns-then-after-ge-STOP : goal.returns-then-after-ge-STOP
-returns-then-after-ge-STOP c =
+pub returns-in-Ok : goal.returns-in-Ok
+returns-in-Ok c =
     let gave = rw c.slot.ensures.0 at c.expression-x.ensures in
-    let entered = rw c.mark_in.ensures at c.enter-after.ensures in
-    test_refused _ _ _ _ _ gave c.if-x-ge-STOP.false entered c.if-after-ge-STOP.true
+    let entered = rw c.mark_in.ensures at c.in-Ok.ensures in
+    goes_on _ _ _ _ _ gave c.if-x-ge-STOP.false entered (rw c.value_in.ensures at c.word.ensures)
 
-pub overflow_cast-after : goal.overflow_cast-after
-overflow_cast-after c =
-    let entered = rw c.mark_in.ensures at c.enter-after.ensures in
-    let few = (entered.known c.if-after-ge-STOP.false).1 in
-    omega arith
+pub stop-requires : goal.stop-requires
+stop-requires c =
+    let met = c.in-Err.ensures.0 in
+    (omega (arith, met), search rules)
 
-pub returns : goal.returns
-returns c =
+pub returns-in-Err : goal.returns-in-Err
+returns-in-Err c =
     let gave = rw c.slot.ensures.0 at c.expression-x.ensures in
-    let entered = rw c.mark_in.ensures at c.enter-after.ensures in
-    goes_on _ _ _ _ _ gave c.if-x-ge-STOP.false entered c.if-after-ge-STOP.false (rw c.value_in.ensures at c.word.ensures)
+    let refused = rw c.mark_in.ensures at c.in-Err.ensures in
+    test_refused _ _ _ _ _ gave c.if-x-ge-STOP.false refused c.stop.ensures

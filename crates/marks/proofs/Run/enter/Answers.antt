@@ -21,7 +21,7 @@ pub returns-then-is_partial : goal.returns-then-is_partial
 unfolding meaning
 returns-then-is_partial c =
     let p = c.requires in
-    enter_partial c.args.self.now _ _ _ p.askable.order p.context-known (sym c.is_partial.ensures ∙ c.if-is_partial.true) c.stop.ensures
+    enter_partial c.args.self.now _ _ _ p.askable.order p.context-known (sym c.is_partial.ensures ∙ c.if-is_partial.true)
 
 pub join-requires : goal.join-requires
 unfolding meaning

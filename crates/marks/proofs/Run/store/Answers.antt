@@ -47,14 +47,14 @@ returns-then-old-context c =
       | then-old-context-via-else-old-context+then-at_or_below w ↦
           sym w.at_or_below.ensures ∙ w.if-at_or_below.true
     ] in
-    store_below c.args.self.now c.args.n _ c.args.m p.askable.order p.context-known c.args.old below c.join.ensures
+    store_below c.args.self.now c.args.n _ c.args.m p.askable.order p.context-known c.args.old _ below c.join.ensures
 
 pub returns-in-Strict : goal.returns-in-Strict
 unfolding meaning
 returns-in-Strict c =
     let p = c.requires in
     store-strict c.args.self.now _ _ _ p.askable.order p.context-known c.args.old
-    (sym c.at_or_below.ensures ∙ c.if-at_or_below.false) (ap mode_in c.in-Strict.is) c.stop.ensures
+    (sym c.at_or_below.ensures ∙ c.if-at_or_below.false) (ap mode_in c.in-Strict.is)
 
 pub lowered-requires : goal.lowered-requires
 unfolding meaning
@@ -66,5 +66,5 @@ pub returns-in-Permissive : goal.returns-in-Permissive
 unfolding meaning
 returns-in-Permissive c =
     let p = c.requires in
-    store_lowered c.args.self.now _ _ _ p.askable.order p.context-known c.args.old
+    store_lowered c.args.self.now _ _ _ p.askable.order p.context-known c.args.old _
     (sym c.at_or_below.ensures ∙ c.if-at_or_below.false) (ap mode_in c.in-Permissive.is) c.lowered.ensures
