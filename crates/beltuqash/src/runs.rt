@@ -6,7 +6,8 @@ ghost use Rattle.beltuqash.specs.Calls.{ended, run_from};
 ghost use Rattle.beltuqash.specs.Inside.Given.{Given, Comes};
 
 use basis::answer::{Answer, success};
-use marks::{Cell, Run, words};
+use marks::words::Word;
+use marks::{Cell, Run};
 use sections::Parts;
 
 // Runs a sheet that passes from a store that fits it, on a work store: only a run that is done writes. The work store lies on the stack
@@ -22,22 +23,22 @@ pub fn run_from(sheet: &[u8], store: &[u8], mode: u32, fuel: u32, out: &mut [u8]
     let mut work = [Cell::BLANK; 64];
     flow::work::fetch(store, &mut work, fields);
     let word = flow::commands::execute(&run, &mut work, last, run.lowest, fuel);
-    if words::STOP <= word {
+    if word.is_stop() {
         return stopped(word, fuel);
     }
     flow::work::deliver(&work, out, fields);
-    success(fuel - words::left_in(word))
+    success(fuel - word.left())
 }
 
 // What a run that stops comes to.
-fn stopped(word: u64, fuel: u32) -> Answer
+fn stopped(word: Word, fuel: u32) -> Answer
     requires { Told word × (left_in word ≤ fuel) }
     ensures { (fields : ℕ) (out : List ℕ) → result ≡ (ended fields fuel out (stop_of word)).answer }
 {
-    let units = fuel - words::left_in(word);
+    let units = fuel - word.left();
     Answer {
-        number: words::number_in(word),
-        place: words::place_told(word),
+        number: word.number(),
+        place: word.place(),
         units,
     }
 }

@@ -17,7 +17,7 @@ use Rattle.rules.specs.Ends.{Why, Result, gives, stops, End, done, stopped, at, 
 use Rattle.rules.specs.Rules.{Marking, put, eval, updated, exec}
 use Rattle.store.specs.Cells.{Cell, cell, Store}
 use Rattle.rules.proofs.Units.{assign_law}
-use Rattle.marks.specs.Inside.Words.{blank, value_in, mark_in, cell_of, work_at, work_of, Goes, Stops, why_of, Stop, Met}
+use Rattle.marks.specs.Inside.Words.{blank, value_in, mark_in, cell_of, work_at, work_of, Goes, Stops, why_of, Stopped, Met}
 use Rattle.marks.specs.declared.Cell.{Cell as Held}
 use Rattle.marks.specs.declared.Run.{Run}
 use Rattle.marks.specs.Inside.Meanings.{Meaning, meaning}
@@ -137,7 +137,7 @@ module _ {run : Run} {work : List Held} {n context : ℕ} (p : CmdIn run work n 
       left_there = at n (𝓢.marking.store n (𝓢.context_of context) (𝓢.mark_of (get_or work field blank).mark) (𝓢.seen_of (mark_in x)))
 
       -- the mark is refused
-      pub assigned_refused : {s : Halt} → Met s.number × (left_there ≡ stops (why_of s.number) s.place) → {r : ℕ} → Stop s.number s.place 0 r → Assigned run work n context work r
+      pub assigned_refused : {s : Halt} → Met s.number × (left_there ≡ stops (why_of s.number) s.place) → {r : ℕ} → Stopped s.number s.place 0 r → Assigned run work n context work r
       unfolding work_at
       assigned_refused refused {r} made =
           let update = updated-stops 𝓢.marking n (𝓢.context_of context) (get_or work field blank).value (value_in x) _ _ _ _ refused.1 in

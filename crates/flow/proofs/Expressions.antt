@@ -16,7 +16,7 @@ use Rattle.sheet.proofs.Trees.{held_there, exp_at-constant, exp_at-field, exp_at
 use Rattle.rules.specs.Ends.{Why, out_of_range, divisor_zero, Result, gives, stops, at, and_then}
 use Rattle.rules.specs.Rules.{Marking, computed, reading, operated, inverted, sealing, eval}
 use Rattle.store.specs.Cells.{Cell, cell, Store}
-use Rattle.marks.specs.Inside.Words.{blank, value_in, mark_in, cell_in, work_at, work_of, Word, Goes, Stops, why_of, Stop}
+use Rattle.marks.specs.Inside.Words.{blank, value_in, mark_in, cell_in, work_at, work_of, Holds, Goes, Stops, why_of, Stopped}
 use Rattle.marks.specs.declared.Cell.{Cell as Held}
 use Rattle.marks.specs.declared.Run.{Run}
 use Rattle.marks.specs.Inside.Meanings.{Meaning, meaning, Sees, Constant, Sealed, Read, Joined}
@@ -126,7 +126,7 @@ child_in_lem p below =
 -- ── the word that answers for a node ────────────────────────────────────────────────────────
 
 -- a word made of a value and the number of a seen mark
-module _ (𝓢 : Meaning) {v : Value} {s : 𝓢.Seen} {mark r : ℕ} (made : Word v mark r) (sees : Sees 𝓢 s mark) where
+module _ (𝓢 : Meaning) {v : Value} {s : 𝓢.Seen} {mark r : ℕ} (made : Holds v mark r) (sees : Sees 𝓢 s mark) where
   seen_goes : Goes r
   seen_goes = omega (arith, made.mark-is, sees.few)
 
@@ -147,18 +147,18 @@ module _ (run : Run) (n left right : ℕ) where
   abbrev seen : ℕ → 𝓞.Seen
   seen w = 𝓞.seen_of (mark_in w)
 
-  pub operated_word : {u : Value} {mark r : ℕ} → operator_of op (value_in left) (value_in right) ≡ Is u → Joined 𝓞 (mark_in left) (mark_in right) mark → Word u mark r
+  pub operated_word : {u : Value} {mark r : ℕ} → operator_of op (value_in left) (value_in right) ≡ Is u → Joined 𝓞 (mark_in left) (mark_in right) mark → Holds u mark r
       → Operated run n left right r
   operated_word {u} {mark} {r} e sees made =
       answers_gives (seen_goes 𝓞 made sees)
       (operated-is 𝓞.marking n op (value_in left) (value_in right) (seen left) (seen right) u e ∙ ap gives (seen-cell 𝓞 made sees)) (seen-known 𝓞 made sees)
 
-  pub range_word : {z : ℤ} {l r : ℕ} → operator_of op (value_in left) (value_in right) ≡ OutOfRange z → Stop numbers.out_of_range n l r → Operated run n left right r
+  pub range_word : {z : ℤ} {l r : ℕ} → operator_of op (value_in left) (value_in right) ≡ OutOfRange z → Stopped numbers.out_of_range n l r → Operated run n left right r
   unfolding why_of
   range_word {z} {l} {r} e s =
       answers_stops s (omega arith, omega arith) (operated_range 𝓞.marking n op (value_in left) (value_in right) (seen left) (seen right) z e)
 
-  pub zero_word : {l r : ℕ} → operator_of op (value_in left) (value_in right) ≡ DivisorZero → Stop numbers.divisor_zero n l r → Operated run n left right r
+  pub zero_word : {l r : ℕ} → operator_of op (value_in left) (value_in right) ≡ DivisorZero → Stopped numbers.divisor_zero n l r → Operated run n left right r
   unfolding why_of
   zero_word {l} {r} e s =
       answers_stops s (omega arith, omega arith) (operated_zero 𝓞.marking n op (value_in left) (value_in right) (seen left) (seen right) e)
@@ -177,11 +177,11 @@ module _ {run : Run} {work : List Held} {n : ℕ} (p : ExpIn run work n) where
   result w = eval 𝓢.marking (exp_at run.parts.constants.now run.parts.nodes.now w) (work_of 𝓢.mark_of work)
 
   -- the word of a value
-  seen_word : {r : ℕ} {v : Value} {mark : ℕ} {s : 𝓢.Seen} → Word v mark r → Sees 𝓢 s mark → result n ≡ gives (cell v s) → Evaluated run work n r
+  seen_word : {r : ℕ} {v : Value} {mark : ℕ} {s : 𝓢.Seen} → Holds v mark r → Sees 𝓢 s mark → result n ≡ gives (cell v s) → Evaluated run work n r
   seen_word made sees e = answers_gives (seen_goes 𝓢 made sees) (e ∙ ap gives (seen-cell 𝓢 made sees)) (seen-known 𝓢 made sees)
 
   -- a constant, and a field
-  pub constant_word : {r a : ℕ} {v : Value} {mark : ℕ} → kind ≡ 0 → a ≡ child 0 → v ≡ constant_at run.parts.constants.now a → Constant 𝓢 mark → Word v mark r
+  pub constant_word : {r a : ℕ} {v : Value} {mark : ℕ} → kind ≡ 0 → a ≡ child 0 → v ≡ constant_at run.parts.constants.now a → Constant 𝓢 mark → Holds v mark r
       → Evaluated run work n r × Goes r
   constant_word {r} {a} {v} {mark} k is value sees made = (
     seen_word made sees
@@ -190,7 +190,7 @@ module _ {run : Run} {work : List Held} {n : ℕ} (p : ExpIn run work n) where
     seen_goes 𝓢 made sees,
   )
 
-  pub field_word : {r a mark : ℕ} → kind ≡ 1 → a ≡ child 0 → Read 𝓢 a (get_or work a blank).mark mark → Word (get_or work a blank).value mark r
+  pub field_word : {r a mark : ℕ} → kind ≡ 1 → a ≡ child 0 → Read 𝓢 a (get_or work a blank).mark mark → Holds (get_or work a blank).value mark r
       → Evaluated run work n r × Goes r
   unfolding work_at reading
   field_word {r} {a} {mark} k is sees made = (
@@ -205,13 +205,13 @@ module _ {run : Run} {work : List Held} {n : ℕ} (p : ExpIn run work n) where
   left_stop_word k left large = hands_on left large (λ why place. left-stops 𝓢.marking _ p.ready.formed _ p.inside _ why place k p.sort)
 
   module _ {l : ℕ} (left : Evaluated run work (child 0) l) (goes : Goes l) where
-    pub not_word : {r : ℕ} {v : Value} {mark : ℕ} → kind ≡ 3 → v ≡ not_of (value_in l) → mark ≡ mark_in l → Word v mark r → Evaluated run work n r
+    pub not_word : {r : ℕ} {v : Value} {mark : ℕ} → kind ≡ 3 → v ≡ not_of (value_in l) → mark ≡ mark_in l → Holds v mark r → Evaluated run work n r
     not_word {r} {v} {mark} k value is made =
         seen_word made (record { is = ap 𝓢.seen_of is; known = rw is (left.known goes); few = omega arith })
         (not_gives 𝓢.marking _ p.ready.formed _ p.inside _ _ _ (answer-gives left goes) k
         ∙ sym (ap (λ (v : Value). gives (cell v (𝓢.seen_of (mark_in l)))) value))
 
-    pub seal_word : {r : ℕ} {v : Value} {mark : ℕ} → kind ≡ 4 → v ≡ value_in l → Sealed 𝓢 mark → Word v mark r → Evaluated run work n r
+    pub seal_word : {r : ℕ} {v : Value} {mark : ℕ} → kind ≡ 4 → v ≡ value_in l → Sealed 𝓢 mark → Holds v mark r → Evaluated run work n r
     seal_word {r} {v} {mark} k value sees made =
         seen_word made sees
         (seal-gives 𝓢.marking _ p.ready.formed _ p.inside _ _ _ (answer-gives left goes) k

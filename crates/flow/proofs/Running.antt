@@ -18,7 +18,7 @@ use Rattle.store.specs.Cells.{Store}
 use Rattle.rules.specs.Ends.{End, done, spent, spend, bind}
 use Rattle.rules.specs.Rules.{tested, exec}
 use Rattle.rules.proofs.Units.{skip_law, assign_law, sequence_law, if_law, while_law, units_done}
-use Rattle.marks.specs.Inside.Words.{upper_half, Half, Place, value_in, mark_in, work_of, Goes, Stops, left_in, place_in, number_in, Stop}
+use Rattle.marks.specs.Inside.Words.{upper_half, Half, Place, value_in, mark_in, work_of, Goes, Stops, left_in, place_in, number_in, Stopped}
 use Rattle.marks.specs.declared.Cell.{Cell as Held}
 use Rattle.marks.specs.declared.Run.{Run}
 use Rattle.marks.specs.Inside.Meanings.{Meaning, meaning}
@@ -152,7 +152,7 @@ module _ (run : Run) (before : List Held) (first start fuel : ℕ) where
         (λ not_6. split (eqb (kind_at nodes n) 8) (λ e. if_is (eqb-true _ _ e) ∙ rw none)
         (λ not_8. while-is (omega (arith, other, eqb-false (kind_at nodes n) 5 not_5, eqb-false (kind_at nodes n) 6 not_6, eqb-false (kind_at nodes n) 8 not_8)) ∙ rw none)))
 
-    pub run-spent : (kind_at nodes n ≡ 7 → ⊥) → left ≡ 0 → {r : ℕ} → Stop numbers.fuel_spent n 0 r → Ran run before first start fuel work r
+    pub run-spent : (kind_at nodes n ≡ 7 → ⊥) → left ≡ 0 → {r : ℕ} → Stopped numbers.fuel_spent n 0 r → Ran run before first start fuel work r
     run-spent other none {r} s =
         ends (end_stop r (of_work work) s.stops ∙ stop_spent s ∙ sym (spent-is other none)) g.command.ready (λ _. told-spent s)
 
@@ -177,7 +177,7 @@ module _ (run : Run) (before : List Held) (first start fuel : ℕ) where
 
       -- ── an assignment ──
       module _ {after : List Held} {x : ℕ} (p : Assigned run work n context after x) where
-        pub assign-stops : Stops x → {r : ℕ} → Stop (number_in x) (place_in x) l r → Ran run before first start fuel after r
+        pub assign-stops : Stops x → {r : ℕ} → Stopped (number_in x) (place_in x) l r → Ran run before first start fuel after r
         assign-stops large {r} s =
             ends (end_stop r (of_work after) s.stops ∙ stop_handed s large p.number
             ∙ sym (or_stopped x l (done (of_work after) l) large) ∙ rw some (p.is l))
@@ -192,7 +192,7 @@ module _ (run : Run) (before : List Held) (first start fuel : ℕ) where
         by_word yes_side no_side = rw some (p.is l yes_side no_side)
 
         -- the test stops, and so does the run
-        pub test_stops : 8 ≤ kind_at nodes n → Stops x → {r : ℕ} → Stop (number_in x) (place_in x) l r → Ran run before first start fuel work r
+        pub test_stops : 8 ≤ kind_at nodes n → Stops x → {r : ℕ} → Stopped (number_in x) (place_in x) l r → Ran run before first start fuel work r
         test_stops k large {r} s =
             let known = g.command.ready.formed.kind _ g.command.inside in
             ends (end_stop r (of_work work) s.stops ∙ stop_handed s large p.number ∙ split (eqb (kind_at nodes n) 8)

@@ -15,7 +15,7 @@ use Rattle.sheet.proofs.Trees.{held_there}
 use Rattle.rules.specs.Ends.{Why, Result, gives, stops, End, stopped, at, with, choose, spend}
 use Rattle.rules.specs.Rules.{Marking, eval, branch, tested}
 use Rattle.store.specs.Cells.{cell, Store}
-use Rattle.marks.specs.Inside.Words.{Below, value_in, mark_in, Word, Goes, Stops, why_of, Stop, Met}
+use Rattle.marks.specs.Inside.Words.{Below, value_in, mark_in, Holds, Goes, Stops, why_of, Stopped, Met}
 use Rattle.marks.specs.declared.Cell.{Cell as Held}
 use Rattle.marks.specs.declared.Run.{Run}
 use Rattle.marks.specs.Inside.Meanings.{Meaning, meaning}
@@ -61,7 +61,7 @@ module _ (run : Run) (work : List Held) (n context x : ℕ) (evaluated : Evaluat
     abbrev after : Result 𝓢.Context
     after = at n (𝓢.marking.enter (𝓢.context_of context) (𝓢.seen_of (mark_in x)))
 
-    pub test_refused : {s : Halt} → Met s.number × (after ≡ stops (why_of s.number) s.place) → {r : ℕ} → Stop s.number s.place 0 r → Tested run work n context r
+    pub test_refused : {s : Halt} → Met s.number × (after ≡ stops (why_of s.number) s.place) → {r : ℕ} → Stopped s.number s.place 0 r → Tested run work n context r
     test_refused refused {r} made = record {
       is = λ left yes_side no_side. test_stopped _ r left yes_side no_side made.stops
           ∙ rw (made.number_is, made.place_is) (sym (tested-refused _ _ _ _ _ left yes_side no_side _ _ (answer-gives evaluated goes) _ _ refused.1));
@@ -70,7 +70,7 @@ module _ (run : Run) (work : List Held) (n context x : ℕ) (evaluated : Evaluat
     }
 
     -- the test's value with the context after it
-    pub goes_on : {k : ℕ} → (𝓢.KnownContext k × Below k) × (after ≡ gives (𝓢.context_of k)) → {r : ℕ} → Word (value_in x) k r → Tested run work n context r
+    pub goes_on : {k : ℕ} → (𝓢.KnownContext k × Below k) × (after ≡ gives (𝓢.context_of k)) → {r : ℕ} → Holds (value_in x) k r → Tested run work n context r
     goes_on entered {r} made =
         let few = entered.0.1 in
         let low : Goes r = omega (arith, made.mark-is) in

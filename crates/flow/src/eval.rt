@@ -1,6 +1,6 @@
-// What an expression gives, by recursion on the node number. The run and the work store come behind a reference each, and the answer is one
-// number: a frame is a few registers. A constant or a field needs no call, an operator on two of them no frame: `eval` calls itself
-// below a not or a seal, so the compiler keeps it apart from `expression`.
+// What an expression gives, by recursion on the node number. The run and the work store come behind a reference each, and the answer is a
+// word: a frame is a few registers. A constant or a field needs no call, an operator on two of them no frame: `eval` calls itself
+// below a not or a seal, so the compiler keeps it apart from `expression`. Kinds are their numbers, as in `nodes`: below 2 are the leaves.
 ghost use Rattle.std.specs.Prelude.{◌<◌};
 ghost use Rattle.nodes.specs.Nodes.{In, kind_at};
 ghost use Rattle.marks.specs.Inside.Words.{Place, mark_in, Goes};
@@ -9,25 +9,25 @@ ghost use Rattle.flow.specs.Inside.Tasks.{ExpIn, Evaluated, Operated};
 
 use basis::numbers;
 use marks::parts::constant_at;
-use marks::words::{STOP, mark_in, stop, value_in, word};
+use marks::words::Word;
 use marks::{Cell, Run};
 use nodes::{kind_of, op_of, slot};
 use value::Computed;
 
 // The operator at node n, between the values in two words.
-fn operate(run: &Run, left: u64, n: usize, right: u64) -> u64
+fn operate(run: &Run, left: Word, n: usize, right: Word) -> Word
     requires { Joins (meaning run.now) (mark_in left) (mark_in right) × In run.now.parts.nodes.now n × Place n }
     ensures { Operated run.now n left right result }
 {
-    match value::apply(op_of(run.parts.nodes, n), value_in(left), value_in(right)) {
-        Computed::Is(v) => word(v, run.join(mark_in(left), mark_in(right))),
-        Computed::OutOfRange(_) => stop(numbers::OUT_OF_RANGE, n),
-        Computed::DivisorZero => stop(numbers::DIVISOR_ZERO, n),
+    match value::apply(op_of(run.parts.nodes, n), left.value(), right.value()) {
+        Computed::Is(v) => Word::new(v, run.join(left.mark(), right.mark())),
+        Computed::OutOfRange(_) => Word::stop(numbers::OUT_OF_RANGE, n),
+        Computed::DivisorZero => Word::stop(numbers::DIVISOR_ZERO, n),
     }
 }
 
 // The constant or the field at node n.
-fn leaf(run: &Run, work: &[Cell; 64], n: usize) -> u64
+fn leaf(run: &Run, work: &[Cell; 64], n: usize) -> Word
     requires { ExpIn run.now work.now n × (kind_at run.now.parts.nodes.now n < 2) }
     ensures { Evaluated run.now work.now n result × Goes result }
 {
@@ -35,14 +35,14 @@ fn leaf(run: &Run, work: &[Cell; 64], n: usize) -> u64
     let a = slot(nodes, n, 0);
     if kind_of(nodes, n) == 1 {
         let held = work[a];
-        return word(held.value, run.read(a, held.mark));
+        return Word::new(held.value, run.read(a, held.mark));
     }
-    word(constant_at(run.parts.constants, a), run.constant())
+    Word::new(constant_at(run.parts.constants, a), run.constant())
 }
 
 // The expression at node n. An operator on two leaves, as most are, is answered without a frame.
 #[cycle(eval_expression)]
-pub fn expression(run: &Run, work: &[Cell; 64], n: usize) -> u64
+pub fn expression(run: &Run, work: &[Cell; 64], n: usize) -> Word
     requires { ExpIn run.now work.now n }
     ensures { Evaluated run.now work.now n result }
 {
@@ -63,7 +63,7 @@ pub fn expression(run: &Run, work: &[Cell; 64], n: usize) -> u64
 
 // The same by its parts.
 #[cycle(eval_expression)]
-fn eval(run: &Run, work: &[Cell; 64], n: usize) -> u64
+fn eval(run: &Run, work: &[Cell; 64], n: usize) -> Word
     requires { ExpIn run.now work.now n }
     ensures { Evaluated run.now work.now n result }
 {
@@ -75,7 +75,7 @@ fn eval(run: &Run, work: &[Cell; 64], n: usize) -> u64
             leaf(run, work, a)
         } else {
             let x = expression(run, work, a);
-            if STOP <= x {
+            if x.is_stop() {
                 return x;
             }
             x
@@ -85,7 +85,7 @@ fn eval(run: &Run, work: &[Cell; 64], n: usize) -> u64
             leaf(run, work, b)
         } else {
             let y = expression(run, work, b);
-            if STOP <= y {
+            if y.is_stop() {
                 return y;
             }
             y
@@ -96,11 +96,11 @@ fn eval(run: &Run, work: &[Cell; 64], n: usize) -> u64
         return leaf(run, work, n);
     }
     let z = eval(run, work, a);
-    if STOP <= z {
+    if z.is_stop() {
         return z;
     }
     if kind == 3 {
-        return word(value_in(z).not(), mark_in(z));
+        return Word::new(z.value().not(), z.mark());
     }
-    word(value_in(z), run.sealed())
+    Word::new(z.value(), run.sealed())
 }

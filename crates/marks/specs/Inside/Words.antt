@@ -73,7 +73,7 @@ module _ {A : Type 0} (of : ℕ → A) where
   work_of work = work_at work
 
 -- a word made of a value and a mark's number
-pub record Word (v : Value) (mark r : ℕ) : Type 0 where
+pub record Holds (v : Value) (mark r : ℕ) : Type 0 where
   pub value : value_in r ≡ v
   pub mark-is : mark_in r ≡ mark
 
@@ -98,7 +98,7 @@ unfoldable pub why_of : ℕ → Why
 why_of number = get_or (out_of_range ∷ divisor_zero ∷ not_below ∷ []) (number - numbers.out_of_range) partial_test
 
 -- a stop's word: why, where, and the fuel left
-pub record Stop (number place left r : ℕ) : Type 0 where
+pub record Stopped (number place left r : ℕ) : Type 0 where
   pub stops : Stops r
   pub number_is : number_in r ≡ number
   pub place_is : place_in r ≡ place

@@ -5,6 +5,7 @@ use mathlib.Core.Path.{refl, sym, ap, ◌∙◌}
 use mathlib.Core.List.{List}
 use lib.ListN.{length}
 use Rattle.basis.specs.Answer.{Outcome}
+use Rattle.marks.proofs.Results.{stops_so, goes_so}
 use Rattle.beltuqash.specs.Calls.{ended}
 use Rattle.beltuqash.proofs.Checking.{few-fields, nodes-long, fits-long}
 use Rattle.beltuqash.proofs.Running.{stop_out, starts, task_in, Done, left-done, runs_done, marks-few, left-stopped, runs-stopped}
@@ -16,8 +17,8 @@ returns c =
     let s = starts c.new-run.ensures c.of.ensures.levels c.of.ensures.fields c.of.ensures.constants c.of.ensures.nodes in
     let done : Done _ c.args.store.now _ _ _ c.args.fuel _ _ = record { same = c.fetch.ensures.is; starts = s; ran = c.execute-word.ensures } in
     let count_is = ap (λ (l : List ℕ). length l / 8) s.fields in
-    let is = runs_done done c.if-word-ge-STOP.false c.args.out.now in (
-      rw c.left_in.ensures at c.success.ensures ∙ ap (λ (x : Outcome). x.answer) (sym is),
+    let is = runs_done done (goes_so c.if-is_stop.ensures) c.args.out.now in (
+      rw c.left.ensures at c.success.ensures ∙ ap (λ (x : Outcome). x.answer) (sym is),
       rw count_is at c.deliver.ensures ∙ ap (λ (x : Outcome). x.out) (sym is),
     )
 
@@ -41,14 +42,14 @@ pub stopped-requires : goal.stopped-requires
 stopped-requires c =
     let s = starts c.new-run.ensures c.of.ensures.levels c.of.ensures.fields c.of.ensures.constants c.of.ensures.nodes in
     let done : Done _ c.args.store.now _ _ _ c.args.fuel _ _ = record { same = c.fetch.ensures.is; starts = s; ran = c.execute-word.ensures } in
-    (done.ran.told c.if-word-ge-STOP.true, left-stopped done c.if-word-ge-STOP.true)
+    (done.ran.told (stops_so c.if-is_stop.ensures), left-stopped done (stops_so c.if-is_stop.ensures))
 
-pub returns-then-word-ge-STOP : goal.returns-then-word-ge-STOP
-returns-then-word-ge-STOP c =
+pub returns-then-is_stop : goal.returns-then-is_stop
+returns-then-is_stop c =
     let s = starts c.new-run.ensures c.of.ensures.levels c.of.ensures.fields c.of.ensures.constants c.of.ensures.nodes in
     let done : Done _ c.args.store.now _ _ _ c.args.fuel _ _ = record { same = c.fetch.ensures.is; starts = s; ran = c.execute-word.ensures } in
-    let is = runs-stopped done c.if-word-ge-STOP.true c.args.out.now in
-    (c.stopped.ensures _ _ ∙ ap (λ (x : Outcome). x.answer) (sym is), sym (ap (λ (x : Outcome). x.out) is ∙ stop_out _ _ (done.ran.told c.if-word-ge-STOP.true) _ _))
+    let is = runs-stopped done (stops_so c.if-is_stop.ensures) c.args.out.now in
+    (c.stopped.ensures _ _ ∙ ap (λ (x : Outcome). x.answer) (sym is), sym (ap (λ (x : Outcome). x.out) is ∙ stop_out _ _ (done.ran.told (stops_so c.if-is_stop.ensures)) _ _))
 
 pub deliver-requires : goal.deliver-requires
 deliver-requires c =
@@ -61,4 +62,4 @@ pub overflow_sub-fuel : goal.overflow_sub-fuel
 overflow_sub-fuel c =
     let s = starts c.new-run.ensures c.of.ensures.levels c.of.ensures.fields c.of.ensures.constants c.of.ensures.nodes in
     let done : Done _ c.args.store.now _ _ _ c.args.fuel _ _ = record { same = c.fetch.ensures.is; starts = s; ran = c.execute-word.ensures } in
-    omega (arith, c.left_in.ensures, left-done done c.if-word-ge-STOP.false)
+    omega (arith, c.left.ensures, left-done done (goes_so c.if-is_stop.ensures))

@@ -8,6 +8,7 @@ use Rattle.nodes.specs.Nodes.{kind_at}
 use Rattle.marks.specs.declared.Cell.{Cell as Held}
 use Rattle.marks.specs.declared.Run.{Run}
 use Rattle.flow.specs.Inside.Tasks.{CmdIn}
+use Rattle.marks.proofs.Results.{stops_so, goes_so}
 use Rattle.flow.proofs.Ends.{bit-few}
 use Rattle.flow.proofs.Running.{starts, child, fuel-left, node-few, turn_below, first_stops, second_next, run-spent, at_last}
 use Rattle.flow.proofs.Running.{test_stops, side_below, side_next, while-done, body_below, round_stops, round_next}
@@ -44,10 +45,10 @@ execute-done-requires t c =
     let below = turn_below _ _ _ _ _ g seven 0 (omega arith) in
     (omega (arith, c.slot.ensures.0, below.lower), child g.command (rw c.slot.ensures.0 below) g.command.context-known)
 
-pub returns-then-done-ge-STOP : goal.returns-then-done-ge-STOP
-returns-then-done-ge-STOP t c =
+pub returns-then-is_stop : goal.returns-then-is_stop
+returns-then-is_stop t c =
     let seven = sym c.kind_of-kind.ensures ∙ c.if-kind-eq7.true in
-    first_stops _ _ _ _ _ c.loop-work.invariant seven (rw c.slot.ensures.0 at c.execute-done.ensures) c.if-done-ge-STOP.true
+    first_stops _ _ _ _ _ c.loop-work.invariant seven (rw c.slot.ensures.0 at c.execute-done.ensures) (stops_so c.if-is_stop.ensures)
 
 pub slot-n-requires : goal.slot-n-requires
 slot-n-requires t c = (c.loop-work.invariant.command.inside, omega arith)
@@ -56,13 +57,13 @@ pub loop-work-smaller-then-kind-eq7 : goal.loop-work-smaller-then-kind-eq7
 loop-work-smaller-then-kind-eq7 t c =
     let seven = sym c.kind_of-kind.ensures ∙ c.if-kind-eq7.true in
     let below = turn_below _ _ _ _ _ c.loop-work.invariant seven 1 (omega arith) in
-    omega (arith, c.slot-n.ensures.0, below.lower, c.left_in-left.ensures, fuel-left c.execute-done.ensures c.if-done-ge-STOP.false)
+    omega (arith, c.slot-n.ensures.0, below.lower, c.left-left.ensures, fuel-left c.execute-done.ensures (goes_so c.if-is_stop.ensures))
 
 pub loop-work-preserved-then-kind-eq7 : goal.loop-work-preserved-then-kind-eq7
 loop-work-preserved-then-kind-eq7 t c =
     let seven = sym c.kind_of-kind.ensures ∙ c.if-kind-eq7.true in
-    rw (c.slot-n.ensures.0, c.left_in-left.ensures)
-    (second_next _ _ _ _ _ c.loop-work.invariant seven (rw c.slot.ensures.0 at c.execute-done.ensures) c.if-done-ge-STOP.false)
+    rw (c.slot-n.ensures.0, c.left-left.ensures)
+    (second_next _ _ _ _ _ c.loop-work.invariant seven (rw c.slot.ensures.0 at c.execute-done.ensures) (goes_so c.if-is_stop.ensures))
 
 -- ── any other command ───────────────────────────────────────────────────────────────────────
 
@@ -89,11 +90,11 @@ test-got-requires t c =
     let test = a_test c.kind_of-kind.ensures c.if-kind-eq7.false c.if-kind-lt7.false in
     (c.loop-work.invariant.command, test)
 
-pub returns-then-got-ge-STOP : goal.returns-then-got-ge-STOP
-returns-then-got-ge-STOP t c =
+pub returns-then-is_stop-2 : goal.returns-then-is_stop-2
+returns-then-is_stop-2 t c =
     let unit = spent c.if-left-eq0.false in
     let test = a_test c.kind_of-kind.ensures c.if-kind-eq7.false c.if-kind-lt7.false in
-    test_stops _ _ _ _ _ c.loop-work.invariant unit c.test-got.ensures test c.if-got-ge-STOP.true c.with_left.ensures
+    test_stops _ _ _ _ _ c.loop-work.invariant unit c.test-got.ensures test (stops_so c.if-is_stop-2.ensures) c.with_left.ensures
 
 pub overflow_sub-holds : goal.overflow_sub-holds
 overflow_sub-holds t c = omega (arith, bit-few c.is_true-holds.result)
@@ -106,52 +107,52 @@ loop-work-smaller-then-kind-eq8 t c =
     let unit = spent c.if-left-eq0.false in
     let eight = sym c.kind_of-kind.ensures ∙ c.if-kind-eq8.true in
     let g = c.loop-work.invariant in
-    let below = side_below _ _ _ _ _ g unit c.test-got.ensures c.if-got-ge-STOP.false eight c.is_true-holds.result in
+    let below = side_below _ _ _ _ _ g unit c.test-got.ensures (goes_so c.if-is_stop-2.ensures) eight c.is_true-holds.result in
     omega (arith, c.slot-n-then-kind-eq8.ensures.0, below.lower, unit)
 
 pub loop-work-preserved-then-kind-eq8 : goal.loop-work-preserved-then-kind-eq8
 loop-work-preserved-then-kind-eq8 t c =
     let unit = spent c.if-left-eq0.false in
     let eight = sym c.kind_of-kind.ensures ∙ c.if-kind-eq8.true in
-    let holds = sym (c.is_true-holds.ensures ∙ ap is_true c.value_in.ensures) in
-    rw (c.slot-n-then-kind-eq8.ensures.0, c.mark_in-context.ensures)
-    (side_next _ _ _ _ _ c.loop-work.invariant unit c.test-got.ensures c.if-got-ge-STOP.false eight
+    let holds = sym (c.is_true-holds.ensures ∙ ap is_true c.value.ensures) in
+    rw (c.slot-n-then-kind-eq8.ensures.0, c.mark-context.ensures)
+    (side_next _ _ _ _ _ c.loop-work.invariant unit c.test-got.ensures (goes_so c.if-is_stop-2.ensures) eight
     c.is_true-holds.result holds)
 
 -- ── a while ─────────────────────────────────────────────────────────────────────────────────
 
-pub returns-then-round-ge-STOP : goal.returns-then-round-ge-STOP
-returns-then-round-ge-STOP t c =
+pub returns-then-is_stop-3 : goal.returns-then-is_stop-3
+returns-then-is_stop-3 t c =
     let unit = spent c.if-left-eq0.false in
     let test = a_test c.kind_of-kind.ensures c.if-kind-eq7.false c.if-kind-lt7.false in
     let nine = a_while c.loop-work.invariant.command c.kind_of-kind.ensures test c.if-kind-eq8.false in
-    let holds = sym (c.is_true-holds.ensures ∙ ap is_true c.value_in.ensures) in
-    round_stops _ _ _ _ _ c.loop-work.invariant unit c.test-got.ensures c.if-got-ge-STOP.false nine
-    (holds ∙ c.if-holds.true) (rw (c.slot-then-holds.ensures.0, c.mark_in-context.ensures) at c.execute-round.ensures) c.if-round-ge-STOP.true
+    let holds = sym (c.is_true-holds.ensures ∙ ap is_true c.value.ensures) in
+    round_stops _ _ _ _ _ c.loop-work.invariant unit c.test-got.ensures (goes_so c.if-is_stop-2.ensures) nine
+    (holds ∙ c.if-holds.true) (rw (c.slot-then-holds.ensures.0, c.mark-context.ensures) at c.execute-round.ensures) (stops_so c.if-is_stop-3.ensures)
 
 pub loop-work-smaller : goal.loop-work-smaller
 loop-work-smaller t c =
     let unit = spent c.if-left-eq0.false in
-    omega (arith, unit, c.left_in-left-then-holds.ensures, fuel-left c.execute-round.ensures c.if-round-ge-STOP.false)
+    omega (arith, unit, c.left-left-then-holds.ensures, fuel-left c.execute-round.ensures (goes_so c.if-is_stop-3.ensures))
 
 pub loop-work-preserved : goal.loop-work-preserved
 loop-work-preserved t c =
     let unit = spent c.if-left-eq0.false in
     let test = a_test c.kind_of-kind.ensures c.if-kind-eq7.false c.if-kind-lt7.false in
     let nine = a_while c.loop-work.invariant.command c.kind_of-kind.ensures test c.if-kind-eq8.false in
-    let holds = sym (c.is_true-holds.ensures ∙ ap is_true c.value_in.ensures) in
-    rw (c.left_in-left-then-holds.ensures, c.mark_in-context.ensures)
-    (round_next _ _ _ _ _ c.loop-work.invariant unit c.test-got.ensures c.if-got-ge-STOP.false nine
-    (holds ∙ c.if-holds.true) (rw (c.slot-then-holds.ensures.0, c.mark_in-context.ensures) at c.execute-round.ensures) c.if-round-ge-STOP.false)
+    let holds = sym (c.is_true-holds.ensures ∙ ap is_true c.value.ensures) in
+    rw (c.left-left-then-holds.ensures, c.mark-context.ensures)
+    (round_next _ _ _ _ _ c.loop-work.invariant unit c.test-got.ensures (goes_so c.if-is_stop-2.ensures) nine
+    (holds ∙ c.if-holds.true) (rw (c.slot-then-holds.ensures.0, c.mark-context.ensures) at c.execute-round.ensures) (goes_so c.if-is_stop-3.ensures))
 
 pub returns-else-holds : goal.returns-else-holds
 returns-else-holds t c =
     let unit = spent c.if-left-eq0.false in
     let test = a_test c.kind_of-kind.ensures c.if-kind-eq7.false c.if-kind-lt7.false in
     let nine = a_while c.loop-work.invariant.command c.kind_of-kind.ensures test c.if-kind-eq8.false in
-    let holds = sym (c.is_true-holds.ensures ∙ ap is_true c.value_in.ensures) in
-    while-done _ _ _ _ _ c.loop-work.invariant unit c.test-got.ensures c.if-got-ge-STOP.false nine
-    (holds ∙ c.if-holds.false)
+    let holds = sym (c.is_true-holds.ensures ∙ ap is_true c.value.ensures) in
+    rw c.done.ensures (while-done _ _ _ _ _ c.loop-work.invariant unit c.test-got.ensures (goes_so c.if-is_stop-2.ensures) nine
+    (holds ∙ c.if-holds.false))
 
 pub slot-requires-then-holds : goal.slot-requires-then-holds
 slot-requires-then-holds t c = (c.loop-work.invariant.command.inside, omega arith)
@@ -163,7 +164,7 @@ execute-round-requires t c =
     let nine = a_while c.loop-work.invariant.command c.kind_of-kind.ensures test c.if-kind-eq8.false in
     let g = c.loop-work.invariant in
     let lower = g.lower in
-    let below = body_below _ _ _ _ _ g unit c.test-got.ensures c.if-got-ge-STOP.false nine in (
+    let below = body_below _ _ _ _ _ g unit c.test-got.ensures (goes_so c.if-is_stop-2.ensures) nine in (
       omega (arith, c.slot-then-holds.ensures.0, below.lower),
-      child g.command (rw c.slot-then-holds.ensures.0 below) (rw c.mark_in-context.ensures (c.test-got.ensures.context-known c.if-got-ge-STOP.false)),
+      child g.command (rw c.slot-then-holds.ensures.0 below) (rw c.mark-context.ensures (c.test-got.ensures.context-known (goes_so c.if-is_stop-2.ensures))),
     )

@@ -9,9 +9,10 @@ use Rattle.marks.specs.Inside.Words.{Goes}
 use Rattle.marks.specs.declared.Cell.{Cell as Held}
 use Rattle.marks.specs.declared.Run.{Run}
 use Rattle.flow.specs.Inside.Tasks.{ExpIn, Evaluated}
+use Rattle.marks.proofs.Results.{stops_so, goes_so}
 use Rattle.flow.proofs.Expressions.{left_below, right-below, child_in_lem, left_stop_word, not_word, seal_word, right_stop_word, operator_word}
 use Rattle.flow.proofs.eval.+eval_expression.Goals as goal
-use Rattle.flow.proofs.eval.+eval_expression.Goals.{eval-then-kind_of-lt2, eval-else-kind_of-lt2+else-x-ge-STOP, eval-then-kind_of-lt2-2, eval-else-kind_of-lt2-2+else-y-ge-STOP}
+use Rattle.flow.proofs.eval.+eval_expression.Goals.{eval-then-kind_of-lt2, eval-else-kind_of-lt2+else-is_stop, eval-then-kind_of-lt2-2, eval-else-kind_of-lt2-2+else-is_stop-2}
 
 -- the children are lower expressions
 module _ {run : Run} {work : List Held} {n : ℕ} (p : ExpIn run work n) where
@@ -50,11 +51,11 @@ eval-expression-x-requires t c =
     let child = first_child c.requires c.slot-a.ensures.0 upto in
     (omega (arith, c.decreases, child.0), child.1)
 
-pub eval-returns-then-x-ge-STOP : goal.eval-returns-then-x-ge-STOP
-eval-returns-then-x-ge-STOP t c =
+pub eval-returns-then-is_stop : goal.eval-returns-then-is_stop
+eval-returns-then-is_stop t c =
     let two = sym c.kind_of-kind.ensures ∙ c.if-kind-eq2.true in
     let upto : 2 ≤ kind_at c.args.run.now.parts.nodes.now c.args.n = omega (arith, two) in
-    left_stop_word c.requires upto (rw c.slot-a.ensures.0 at c.expression-x.ensures) c.if-x-ge-STOP.true
+    left_stop_word c.requires upto (rw c.slot-a.ensures.0 at c.expression-x.ensures) (stops_so c.if-is_stop.ensures)
 
 pub eval-slot-b-requires : goal.eval-slot-b-requires
 eval-slot-b-requires t c = (c.requires.inside, omega arith)
@@ -77,27 +78,27 @@ eval-expression-y-requires t c =
     let child = second_child c.requires c.slot-b.ensures.0 two in
     (omega (arith, c.decreases, child.0), child.1)
 
-pub eval-returns-then-y-ge-STOP : goal.eval-returns-then-y-ge-STOP
-eval-returns-then-y-ge-STOP t c =
+pub eval-returns-then-is_stop-2 : goal.eval-returns-then-is_stop-2
+eval-returns-then-is_stop-2 t c =
     let two = sym c.kind_of-kind.ensures ∙ c.if-kind-eq2.true in
     let left : Evaluated c.args.run.now c.args.work.now (slot_at c.args.run.now.parts.nodes.now c.args.n 0) c.if-kind_of-lt2.left × Goes c.if-kind_of-lt2.left =
     elim c.if-kind_of-lt2.branch [
       | eval-then-kind_of-lt2 w ↦ rw w.left-is (rw c.slot-a.ensures.0 at w.leaf-left.ensures)
-      | eval-else-kind_of-lt2+else-x-ge-STOP w ↦ rw w.left-is (rw c.slot-a.ensures.0 at w.expression-x.ensures, w.if-x-ge-STOP.false)
+      | eval-else-kind_of-lt2+else-is_stop w ↦ rw w.left-is (rw c.slot-a.ensures.0 at w.expression-x.ensures, (goes_so w.if-is_stop.ensures))
     ] in
-    right_stop_word c.requires left.0 left.1 two (rw c.slot-b.ensures.0 at c.expression-y.ensures) c.if-y-ge-STOP.true
+    right_stop_word c.requires left.0 left.1 two (rw c.slot-b.ensures.0 at c.expression-y.ensures) (stops_so c.if-is_stop-2.ensures)
 
 pub eval-operate-requires : goal.eval-operate-requires
 eval-operate-requires t c =
     let left : Evaluated c.args.run.now c.args.work.now (slot_at c.args.run.now.parts.nodes.now c.args.n 0) c.if-kind_of-lt2.left × Goes c.if-kind_of-lt2.left =
     elim c.if-kind_of-lt2.branch [
       | eval-then-kind_of-lt2 w ↦ rw w.left-is (rw c.slot-a.ensures.0 at w.leaf-left.ensures)
-      | eval-else-kind_of-lt2+else-x-ge-STOP w ↦ rw w.left-is (rw c.slot-a.ensures.0 at w.expression-x.ensures, w.if-x-ge-STOP.false)
+      | eval-else-kind_of-lt2+else-is_stop w ↦ rw w.left-is (rw c.slot-a.ensures.0 at w.expression-x.ensures, (goes_so w.if-is_stop.ensures))
     ] in
     let right : Evaluated c.args.run.now c.args.work.now (slot_at c.args.run.now.parts.nodes.now c.args.n 1) c.if-kind_of-lt2-2.right × Goes c.if-kind_of-lt2-2.right =
     elim c.if-kind_of-lt2-2.branch [
       | eval-then-kind_of-lt2-2 w ↦ rw w.right-is (rw c.slot-b.ensures.0 at w.leaf-right.ensures)
-      | eval-else-kind_of-lt2-2+else-y-ge-STOP w ↦ rw w.right-is (rw c.slot-b.ensures.0 at w.expression-y.ensures, w.if-y-ge-STOP.false)
+      | eval-else-kind_of-lt2-2+else-is_stop-2 w ↦ rw w.right-is (rw c.slot-b.ensures.0 at w.expression-y.ensures, (goes_so w.if-is_stop-2.ensures))
     ] in
     let few = c.requires.ready.few-nodes in
     let inside = c.requires.inside in
@@ -109,12 +110,12 @@ eval-returns-then-kind-eq2 t c =
     let left : Evaluated c.args.run.now c.args.work.now (slot_at c.args.run.now.parts.nodes.now c.args.n 0) c.if-kind_of-lt2.left × Goes c.if-kind_of-lt2.left =
     elim c.if-kind_of-lt2.branch [
       | eval-then-kind_of-lt2 w ↦ rw w.left-is (rw c.slot-a.ensures.0 at w.leaf-left.ensures)
-      | eval-else-kind_of-lt2+else-x-ge-STOP w ↦ rw w.left-is (rw c.slot-a.ensures.0 at w.expression-x.ensures, w.if-x-ge-STOP.false)
+      | eval-else-kind_of-lt2+else-is_stop w ↦ rw w.left-is (rw c.slot-a.ensures.0 at w.expression-x.ensures, (goes_so w.if-is_stop.ensures))
     ] in
     let right : Evaluated c.args.run.now c.args.work.now (slot_at c.args.run.now.parts.nodes.now c.args.n 1) c.if-kind_of-lt2-2.right × Goes c.if-kind_of-lt2-2.right =
     elim c.if-kind_of-lt2-2.branch [
       | eval-then-kind_of-lt2-2 w ↦ rw w.right-is (rw c.slot-b.ensures.0 at w.leaf-right.ensures)
-      | eval-else-kind_of-lt2-2+else-y-ge-STOP w ↦ rw w.right-is (rw c.slot-b.ensures.0 at w.expression-y.ensures, w.if-y-ge-STOP.false)
+      | eval-else-kind_of-lt2-2+else-is_stop-2 w ↦ rw w.right-is (rw c.slot-b.ensures.0 at w.expression-y.ensures, (goes_so w.if-is_stop-2.ensures))
     ] in
     operator_word c.requires left.0 left.1 two right.0 right.1 c.operate.ensures
 
@@ -130,18 +131,18 @@ eval-eval-z-requires t c =
     let child = first_child c.requires c.slot-a.ensures.0 kind in
     (omega (arith, c.decreases, child.0), child.1)
 
-pub eval-returns-then-z-ge-STOP : goal.eval-returns-then-z-ge-STOP
-eval-returns-then-z-ge-STOP t c =
+pub eval-returns-then-is_stop-3 : goal.eval-returns-then-is_stop-3
+eval-returns-then-is_stop-3 t c =
     let kind : 2 ≤ kind_at c.args.run.now.parts.nodes.now c.args.n = omega (arith, c.kind_of-kind.ensures, c.if-kind-lt2.false) in
     let given = rw c.slot-a.ensures.0 at c.eval-z.ensures in
-    left_stop_word c.requires kind given c.if-z-ge-STOP.true
+    left_stop_word c.requires kind given (stops_so c.if-is_stop-3.ensures)
 
 pub eval-returns-then-kind-eq3 : goal.eval-returns-then-kind-eq3
 eval-returns-then-kind-eq3 t c =
     let given = rw c.slot-a.ensures.0 at c.eval-z.ensures in
     let kind = sym c.kind_of-kind.ensures ∙ c.if-kind-eq3.true in
-    let value = c.not.ensures ∙ ap not_of c.value_in.ensures in
-    not_word c.requires given c.if-z-ge-STOP.false kind value c.mark_in.ensures c.word.ensures
+    let value = c.not.ensures ∙ ap not_of c.value.ensures in
+    not_word c.requires given (goes_so c.if-is_stop-3.ensures) kind value c.mark.ensures c.new.ensures
 
 pub eval-sealed-requires : goal.eval-sealed-requires
 eval-sealed-requires t c = c.requires.ready.askable
@@ -151,7 +152,7 @@ eval-returns t c =
     let given = rw c.slot-a.ensures.0 at c.eval-z.ensures in
     let sort = c.requires.sort in
     let four : kind_at c.args.run.now.parts.nodes.now c.args.n ≡ 4 = omega (arith, c.kind_of-kind.ensures, c.if-kind-lt2.false, c.if-kind-eq2.false, c.if-kind-eq3.false) in
-    seal_word c.requires given c.if-z-ge-STOP.false four c.value_in-2.ensures c.sealed.ensures c.word-2.ensures
+    seal_word c.requires given (goes_so c.if-is_stop-3.ensures) four c.value-2.ensures c.sealed.ensures c.new-2.ensures
 
 -- ── an operator on two leaves ───────────────────────────────────────────────────────────────
 

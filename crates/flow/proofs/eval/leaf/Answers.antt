@@ -22,7 +22,7 @@ read-requires c = c.requires.0.ready.words _
 
 pub returns-then-kind_of-eq1 : goal.returns-then-kind_of-eq1
 returns-then-kind_of-eq1 c =
-    field_word c.requires.0 (sym c.kind_of.ensures ∙ c.if-kind_of-eq1.true) c.slot-a.ensures.0 c.read.ensures c.word.ensures
+    field_word c.requires.0 (sym c.kind_of.ensures ∙ c.if-kind_of-eq1.true) c.slot-a.ensures.0 c.read.ensures c.new.ensures
 
 pub constant_at-requires : goal.constant_at-requires
 unfolding held_in kinds
@@ -35,4 +35,4 @@ constant-requires c = c.requires.0.ready.askable
 
 pub returns : goal.returns
 returns c =
-    constant_word c.requires.0 (no_field c.kind_of.ensures c.requires.1 c.if-kind_of-eq1.false) c.slot-a.ensures.0 c.constant_at.ensures c.constant.ensures c.word-2.ensures
+    constant_word c.requires.0 (no_field c.kind_of.ensures c.requires.1 c.if-kind_of-eq1.false) c.slot-a.ensures.0 c.constant_at.ensures c.constant.ensures c.new-2.ensures
