@@ -29,13 +29,7 @@ a_while command is test if = omega (arith, command.ready.formed.kind _ command.i
 pub loop-work-init : goal.loop-work-init
 loop-work-init t c = starts _ _ _ _ _ c.requires (omega arith)
 
-pub kind_of-kind-requires : goal.kind_of-kind-requires
-kind_of-kind-requires t c = c.loop-work.invariant.command.inside
-
 -- ── a sequence ──────────────────────────────────────────────────────────────────────────────
-
-pub slot-requires : goal.slot-requires
-slot-requires t c = (c.loop-work.invariant.command.inside, omega arith)
 
 pub execute-done-requires : goal.execute-done-requires
 execute-done-requires t c =
@@ -49,9 +43,6 @@ pub returns-then-is_stop : goal.returns-then-is_stop
 returns-then-is_stop t c =
     let seven = sym c.kind_of-kind.ensures ∙ c.if-kind-eq7.true in
     first_stops _ _ _ _ _ c.loop-work.invariant seven (rw c.slot.ensures.0 at c.execute-done.ensures) (stops_so c.if-is_stop.ensures)
-
-pub slot-n-requires : goal.slot-n-requires
-slot-n-requires t c = (c.loop-work.invariant.command.inside, omega arith)
 
 pub loop-work-smaller-then-kind-eq7 : goal.loop-work-smaller-then-kind-eq7
 loop-work-smaller-then-kind-eq7 t c =
@@ -98,9 +89,6 @@ returns-then-is_stop-2 t c =
 
 pub overflow_sub-holds : goal.overflow_sub-holds
 overflow_sub-holds t c = omega (arith, bit-few c.is_true-holds.result)
-
-pub slot-n-requires-then-kind-eq8 : goal.slot-n-requires-then-kind-eq8
-slot-n-requires-then-kind-eq8 t c = (c.loop-work.invariant.command.inside, omega arith)
 
 pub loop-work-smaller-then-kind-eq8 : goal.loop-work-smaller-then-kind-eq8
 loop-work-smaller-then-kind-eq8 t c =
@@ -153,9 +141,6 @@ returns-else-holds t c =
     let holds = sym (c.is_true-holds.ensures ∙ ap is_true c.value.ensures) in
     rw c.done.ensures (while-done _ _ _ _ _ c.loop-work.invariant unit c.test-got.ensures (goes_so c.if-is_stop-2.ensures) nine
     (holds ∙ c.if-holds.false))
-
-pub slot-requires-then-holds : goal.slot-requires-then-holds
-slot-requires-then-holds t c = (c.loop-work.invariant.command.inside, omega arith)
 
 pub execute-round-requires : goal.execute-round-requires
 execute-round-requires t c =

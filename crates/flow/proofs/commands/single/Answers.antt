@@ -5,14 +5,8 @@ use Rattle.marks.proofs.Results.{stops_so, goes_so}
 use Rattle.flow.proofs.Running.{starts, skip-done, assign-stops, assign-done}
 use Rattle.flow.proofs.commands.single.Goals as goal
 
-pub kind_of-requires : goal.kind_of-requires
-kind_of-requires c = c.requires.0.inside
-
 pub returns-then-kind_of-eq5 : goal.returns-then-kind_of-eq5
 returns-then-kind_of-eq5 c = rw c.done.ensures (skip-done _ _ _ _ _ (starts _ _ _ _ _ c.requires.0 (omega arith)) refl (sym c.kind_of.ensures ∙ c.if-kind_of-eq5.true))
-
-pub assign-put-requires : goal.assign-put-requires
-assign-put-requires c = (c.requires.0, omega (arith, c.requires.0.sort, c.requires.1, c.kind_of.ensures, c.if-kind_of-eq5.false))
 
 pub returns-then-is_stop : goal.returns-then-is_stop
 returns-then-is_stop c = assign-stops _ _ _ _ _ (starts _ _ _ _ _ c.requires.0 (omega arith)) refl c.assign-put.ensures (stops_so c.if-is_stop.ensures) c.with_left.ensures

@@ -24,12 +24,6 @@ module _ {run : Run} {work : List Held} {n : ℕ} (p : ExpIn run work n) where
 
 -- ── by its parts ────────────────────────────────────────────────────────────────────────────
 
-pub eval-kind_of-kind-requires : goal.eval-kind_of-kind-requires
-eval-kind_of-kind-requires t c = c.requires.inside
-
-pub eval-slot-a-requires : goal.eval-slot-a-requires
-eval-slot-a-requires t c = (c.requires.inside, omega arith)
-
 pub eval-kind_of-requires : goal.eval-kind_of-requires
 eval-kind_of-requires t c =
     let two = sym c.kind_of-kind.ensures ∙ c.if-kind-eq2.true in
@@ -56,9 +50,6 @@ eval-returns-then-is_stop t c =
     let two = sym c.kind_of-kind.ensures ∙ c.if-kind-eq2.true in
     let upto : 2 ≤ kind_at c.args.run.now.parts.nodes.now c.args.n = omega (arith, two) in
     left_stop_word c.requires upto (rw c.slot-a.ensures.0 at c.expression-x.ensures) (stops_so c.if-is_stop.ensures)
-
-pub eval-slot-b-requires : goal.eval-slot-b-requires
-eval-slot-b-requires t c = (c.requires.inside, omega arith)
 
 pub eval-kind_of-requires-then-kind-eq2 : goal.eval-kind_of-requires-then-kind-eq2
 eval-kind_of-requires-then-kind-eq2 t c =
@@ -119,12 +110,6 @@ eval-returns-then-kind-eq2 t c =
     ] in
     operator_word c.requires left.0 left.1 two right.0 right.1 c.operate.ensures
 
-pub eval-leaf-requires : goal.eval-leaf-requires
-eval-leaf-requires t c = (c.requires, omega (arith, c.kind_of-kind.ensures, c.if-kind-lt2.true))
-
-pub eval-returns-then-kind-lt2 : goal.eval-returns-then-kind-lt2
-eval-returns-then-kind-lt2 t c = c.leaf.ensures.0
-
 pub eval-eval-z-requires : goal.eval-eval-z-requires
 eval-eval-z-requires t c =
     let kind : 2 ≤ kind_at c.args.run.now.parts.nodes.now c.args.n = omega (arith, c.kind_of-kind.ensures, c.if-kind-lt2.false) in
@@ -144,9 +129,6 @@ eval-returns-then-kind-eq3 t c =
     let value = c.not.ensures ∙ ap not_of c.value.ensures in
     not_word c.requires given (goes_so c.if-is_stop-3.ensures) kind value c.mark.ensures c.new.ensures
 
-pub eval-sealed-requires : goal.eval-sealed-requires
-eval-sealed-requires t c = c.requires.ready.askable
-
 pub eval-returns : goal.eval-returns
 eval-returns t c =
     let given = rw c.slot-a.ensures.0 at c.eval-z.ensures in
@@ -155,12 +137,6 @@ eval-returns t c =
     seal_word c.requires given (goes_so c.if-is_stop-3.ensures) four c.value-2.ensures c.sealed.ensures c.new-2.ensures
 
 -- ── an operator on two leaves ───────────────────────────────────────────────────────────────
-
-pub expression-kind_of-requires : goal.expression-kind_of-requires
-expression-kind_of-requires t c = c.requires.inside
-
-pub expression-slot-a-requires : goal.expression-slot-a-requires
-expression-slot-a-requires t c = (c.requires.inside, omega arith)
 
 pub expression-kind_of-requires-then-kind_of-eq2 : goal.expression-kind_of-requires-then-kind_of-eq2
 expression-kind_of-requires-then-kind_of-eq2 t c =
@@ -175,9 +151,6 @@ expression-leaf-left-requires t c =
     let upto : 2 ≤ kind_at c.args.run.now.parts.nodes.now c.args.n = omega (arith, two) in
     let child = first_child c.requires c.slot-a.ensures.0 upto in
     (child.1, omega (arith, c.kind_of-then-kind_of-eq2.ensures, c.if-kind_of-lt2.true))
-
-pub expression-slot-b-requires : goal.expression-slot-b-requires
-expression-slot-b-requires t c = (c.requires.inside, omega arith)
 
 pub expression-kind_of-requires-then-kind_of-lt2 : goal.expression-kind_of-requires-then-kind_of-lt2
 expression-kind_of-requires-then-kind_of-lt2 t c =
@@ -205,9 +178,3 @@ expression-returns-then-kind_of-lt2-2 t c =
     let left = rw c.slot-a.ensures.0 at c.leaf-left.ensures in
     let right = rw c.slot-b.ensures.0 at c.leaf-right.ensures in
     operator_word c.requires left.0 left.1 two right.0 right.1 c.operate.ensures
-
-pub expression-eval-requires : goal.expression-eval-requires
-expression-eval-requires t c = (omega (arith, c.decreases), c.requires)
-
-pub expression-returns : goal.expression-returns
-expression-returns t c = c.eval.ensures

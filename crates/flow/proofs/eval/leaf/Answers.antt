@@ -17,9 +17,6 @@ bounds-work-a c =
     let few = p.ready.few-fields in
     omega (arith, c.slot-a.ensures.0, held_field p.ready.formed _ p.inside (sym c.kind_of.ensures ∙ c.if-kind_of-eq1.true))
 
-pub read-requires : goal.read-requires
-read-requires c = c.requires.0.ready.words _
-
 pub returns-then-kind_of-eq1 : goal.returns-then-kind_of-eq1
 returns-then-kind_of-eq1 c =
     field_word c.requires.0 (sym c.kind_of.ensures ∙ c.if-kind_of-eq1.true) c.slot-a.ensures.0 c.read.ensures c.new.ensures
@@ -29,9 +26,6 @@ unfolding held_in kinds
 constant_at-requires c =
     let p = c.requires.0 in
     rw c.slot-a.ensures.0 (held_there p.ready.formed _ p.inside 0 0 (no_field c.kind_of.ensures c.requires.1 c.if-kind_of-eq1.false) (omega arith))
-
-pub constant-requires : goal.constant-requires
-constant-requires c = c.requires.0.ready.askable
 
 pub returns : goal.returns
 returns c =
