@@ -6,13 +6,9 @@ use mathlib.Core.List.{List}
 use borrow.Author.Tests.{ne_eqb}
 use lib.ListN.{length}
 use Rattle.basis.specs.Numbers as numbers
-<<<<<<< HEAD
 use Rattle.basis.specs.declared.answer.Refusal.{Refusal}
 use Rattle.basis.specs.Answer.{refusal, refused}
 use Rattle.basis.proofs.Numbering.{number_some}
-=======
-use Rattle.basis.specs.Answer.{refusal}
->>>>>>> 135491b3007474748dda7c232c1cb70f127b6ea3
 use Rattle.basis.proofs.Checks.{past_checks}
 use Rattle.sections.specs.Sections.{fields_of}
 use Rattle.beltuqash.specs.Calls.{run_checks, run_from, run}
@@ -35,15 +31,12 @@ module _ (file : List ℕ) where
   unfolding report_of
   report_run e = rw e
 
-<<<<<<< HEAD
   -- the run of the file's parts is the file's
   pub ran_is : {sheet store : List ℕ} {mode fuel : ℕ} → sheet ≡ sheet_in file → store ≡ store_in file → mode ≡ mode_in file → fuel ≡ fuel_in file
       → run sheet store mode fuel lent ≡ outcome_of file
   unfolding outcome_of
   ran_is sheet_is store_is mode_is fuel_is = rw (sheet_is, store_is, mode_is, fuel_is)
 
-=======
->>>>>>> 135491b3007474748dda7c232c1cb70f127b6ea3
   -- number 0 means that the sheet passed
   pub done-fields : (outcome_of file).answer.number ≡ numbers.done → length (fields_of (sheet_in file)) ≤ 512
   unfolding outcome_of run

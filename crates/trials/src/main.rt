@@ -2,14 +2,9 @@
 // length (2 bytes), the sheet. A line comes out for each: the name and what load answers, number, place and units.
 #![tactic(auto)]
 
-<<<<<<< HEAD
 ghost use Rattle.std.specs.Prelude.{◌<◌, length, IfSome};
 
 use input::read_full;
-=======
-ghost use Rattle.std.specs.Prelude.{◌<◌, ◌≤◌, length, IfOk, IfSome};
-
->>>>>>> 135491b3007474748dda7c232c1cb70f127b6ea3
 use std::io;
 use std::io::Write;
 
@@ -17,14 +12,6 @@ fn main(rt: HostRuntime) -> io::Result<()> {
     let mut buffer = [0u8; 65536];
     let n = read_full(&mut rt.stdin(), &mut buffer)?;
     all_trials(&mut rt.stdout(), &buffer[..n])
-}
-
-// A trial, and the input after it.
-#[derive(Clone, Copy)]
-struct Trial<'a> {
-    name: &'a [u8],
-    sheet: &'a [u8],
-    rest: &'a [u8],
 }
 
 // A trial, and the input after it.
@@ -52,16 +39,9 @@ fn all_trials<W: Write>(output: &mut W, input: &[u8]) -> io::Result<()> {
 fn next_trial(input: &[u8]) -> Option<Trial<'_>>
     ensures { IfSome result (λ trial. length trial.rest.now < length input.now) }
 {
-<<<<<<< HEAD
     let (&name_length, rest) = input.split_first()?;
     let (name, rest) = rest.split_at_checked(usize::from(name_length))?;
     let (&sheet_length, rest) = rest.split_first_chunk::<2>()?;
     let (sheet, rest) = rest.split_at_checked(usize::from(u16::from_le_bytes(sheet_length)))?;
-=======
-    let (name_length, rest) = input.split_first()?;
-    let (name, rest) = rest.split_at_checked(*name_length as usize)?;
-    let (sheet_length, rest) = rest.split_at_checked(2)?;
-    let (sheet, rest) = rest.split_at_checked(basis::word(sheet_length, 0) as usize)?;
->>>>>>> 135491b3007474748dda7c232c1cb70f127b6ea3
     Some(Trial { name, sheet, rest })
 }

@@ -1,4 +1,3 @@
-<<<<<<< HEAD
 -- A file that is cut is refused with number 1; what is run otherwise is what the file asks for, so what comes back is the file's outcome.
 use Rattle.std.proofs.Common.{arith, rules, refl, ◌≤◌, length, ap, ◌∙◌}
 use Rattle.basis.specs.Answer.{success, refused}
@@ -11,22 +10,6 @@ use Rattle.report.proofs.report.Goals as goal
 
 pub returns-in_default : goal.returns-in_default
 returns-in_default c = rw (report_cut c.args.file.now (search rules), c.refused_text.ensures, c.into.ensures) refl
-=======
--- A file that is cut is refused with number 1, and one that is not is complete and has its run's text.
-use mathlib.Core.Path.{sym, ap, ◌∙◌}
-use Rattle.basis.specs.declared.answer.Refusal.{Refusal}
-use Rattle.basis.specs.Answer.{refused}
-use Rattle.report.specs.Text.{refused_text}
-use Rattle.report.proofs.Putting.{begins_as}
-use Rattle.report.proofs.Filing.{complete}
-use Rattle.report.proofs.Reporting.{report_cut, report_run}
-use Rattle.report.proofs.report.Goals as goal
-
-pub returns-then-is_cut : goal.returns-then-is_cut
-returns-then-is_cut c =
-    let is = report_cut _ (sym c.is_cut.ensures ∙ c.if-is_cut.true) in
-    begins_as (ap (λ (r : Refusal). refused_text (refused r)) c.into.ensures ∙ sym is) c.print_refused.ensures
->>>>>>> 135491b3007474748dda7c232c1cb70f127b6ea3
 
 pub done_text-requires : goal.done_text-requires
 done_text-requires c =
