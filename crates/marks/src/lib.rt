@@ -8,7 +8,7 @@ pub mod words;
 
 ghost use Rattle.std.specs.Prelude.{◌≡◌, true};
 ghost use Rattle.levels.specs.Levels.{right};
-ghost use Rattle.marks.specs.Inside.Meanings.{meaning, Constant, Sealed, Read, Joined, Entered, Stored, Joins, Enters, Stores, First};
+ghost use Rattle.marks.specs.Inside.Meanings.{meaning, Constant, Sealed, Read, Joined, Entered, Stored, Joins, Enters, Stores, First, rows_in};
 
 use basis::numbers::Number;
 use levels::Levels;
@@ -62,6 +62,17 @@ impl<'a> Run<'a> {
         }
     }
 
+    // The levels of its sheet.
+    #[tactic(auto, unfolding(crate::specs::Inside::Meanings::meaning))]
+    fn levels(&self) -> Levels<'a>
+        requires { (meaning self.now).Askable }
+        ensures { result.rows.now ≡ rows_in self.now }
+    {
+        Levels {
+            rows: self.parts.levels,
+        }
+    }
+
     /// The mark of a constant.
     pub fn constant(&self) -> u32
         requires { (meaning self.now).Askable }
@@ -91,7 +102,7 @@ impl<'a> Run<'a> {
         requires { Joins (meaning self.now) m k }
         ensures { Joined (meaning self.now) m k result }
     {
-        level_marks::join(self.parts.levels, m, k)
+        level_marks::join(self.levels(), m, k)
     }
 
     /// The context after the test at node n, or a stop. A test at the context's own level needs no rows.
@@ -108,7 +119,7 @@ impl<'a> Run<'a> {
                 place: n as u16,
             });
         }
-        Ok(level_marks::join(self.parts.levels, context, m))
+        Ok(level_marks::join(self.levels(), context, m))
     }
 
     /// The mark that the assignment at node n leaves on a field with the old mark, or a stop. A field at the context's own level needs no rows to
@@ -117,19 +128,19 @@ impl<'a> Run<'a> {
         requires { Stores (meaning self.now) n context old m }
         ensures { Stored (meaning self.now) n context old m result }
     {
-        let rows = self.parts.levels;
-        if old == context || level_marks::at_or_below(rows, context, old) {
+        let levels = self.levels();
+        if old == context || level_marks::at_or_below(levels, context, old) {
             if m == old {
                 return Ok(m);
             }
-            return Ok(level_marks::join(rows, m, context));
+            return Ok(level_marks::join(levels, m, context));
         }
         match self.mode {
             Mode::Strict => Err(Stop {
                 number: Number::NotBelow,
                 place: n as u16,
             }),
-            Mode::Permissive => Ok(level_marks::lowered(rows, context, old)),
+            Mode::Permissive => Ok(level_marks::lowered(levels, context, old)),
         }
     }
 }

@@ -91,15 +91,13 @@ pub record LevelRun (run : Run) : Type 0 where
   pub lowest : run.lowest ≡ lowest_of (rows_in run)
   pub highest : run.highest ≡ highest_of (rows_in run)
 
--- right rows, and two known marks
+-- two known marks
 pub record TwoMarks (rows : List ℕ) (m k : ℕ) : Type 0 where
-  pub order : right rows ≡ true
   pub first : mark_known (count rows) m ≡ true
   pub second : mark_known (count rows) k ≡ true
 
--- right rows, a context that is a level, and a known mark
+-- a context that is a level, and a known mark
 pub record Over (rows : List ℕ) (context m : ℕ) : Type 0 where
-  pub order : right rows ≡ true
   pub context-known : context < count rows
   pub mark : mark_known (count rows) m ≡ true
 

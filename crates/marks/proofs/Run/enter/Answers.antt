@@ -9,7 +9,7 @@ pub returns : goal.returns
 unfolding meaning
 returns c =
     let p = c.requires in
-    enter-whole c.args.self.now _ _ _ p.askable.order p.context-known (sym c.is_partial.ensures ∙ c.if-is_partial.false) c.join.ensures
+    enter-whole c.args.self.now _ _ _ p.askable.order p.context-known (sym c.is_partial.ensures ∙ c.if-is_partial.false) (rw c.levels.ensures at c.join.ensures)
 
 pub returns-then-m-context : goal.returns-then-m-context
 unfolding meaning
@@ -27,4 +27,4 @@ pub join-requires : goal.join-requires
 unfolding meaning
 join-requires c =
     let p = c.requires in
-    record { order = p.askable.order; first = (level-mark _ p.askable.order _ p.context-known).1; second = p.seen }
+    rw c.levels.ensures (record { first = (level-mark _ p.askable.order _ p.context-known).1; second = p.seen })

@@ -7,7 +7,7 @@ pub join-requires : goal.join-requires
 unfolding meaning
 join-requires c =
     let p = c.requires in
-    record { order = p.askable.order; first = p.first; second = p.second }
+    rw c.levels.ensures (record { first = p.first; second = p.second })
 
 pub returns : goal.returns
-returns c = join-level _ c.args.m c.args.k c.join.ensures
+returns c = join-level _ c.args.m c.args.k (rw c.levels.ensures at c.join.ensures)

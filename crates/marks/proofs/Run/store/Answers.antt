@@ -14,7 +14,7 @@ pub at_or_below-requires : goal.at_or_below-requires
 unfolding meaning
 at_or_below-requires c =
     let p = c.requires in
-    record { order = p.askable.order; context-known = p.context-known; mark = p.mark }
+    rw c.levels-levels.ensures (record { context-known = p.context-known; mark = p.mark })
 
 pub returns-then-m-old : goal.returns-then-m-old
 unfolding meaning
@@ -25,7 +25,7 @@ returns-then-m-old c =
       | then-old-context-via-then-old-context w ↦
           same-below c.args.self.now c.args.n _ c.args.m p.askable.order p.context-known c.args.old w.if-old-context.true
       | then-old-context-via-else-old-context+then-at_or_below w ↦
-          sym w.at_or_below.ensures ∙ w.if-at_or_below.true
+          sym (rw c.levels-levels.ensures at w.at_or_below.ensures) ∙ w.if-at_or_below.true
     ] in
     store_kept c.args.self.now c.args.n _ c.args.m p.askable.order p.context-known c.args.old below c.if-m-old.true p.mark
 
@@ -33,7 +33,7 @@ pub join-requires : goal.join-requires
 unfolding meaning
 join-requires c =
     let p = c.requires in
-    record { order = p.askable.order; first = p.seen; second = (level-mark _ p.askable.order _ p.context-known).1 }
+    rw c.levels-levels.ensures (record { first = p.seen; second = (level-mark _ p.askable.order _ p.context-known).1 })
 
 pub returns-then-old-context : goal.returns-then-old-context
 unfolding meaning
@@ -44,26 +44,26 @@ returns-then-old-context c =
       | then-old-context-via-then-old-context w ↦
           same-below c.args.self.now c.args.n _ c.args.m p.askable.order p.context-known c.args.old w.if-old-context.true
       | then-old-context-via-else-old-context+then-at_or_below w ↦
-          sym w.at_or_below.ensures ∙ w.if-at_or_below.true
+          sym (rw c.levels-levels.ensures at w.at_or_below.ensures) ∙ w.if-at_or_below.true
     ] in
-    store_below c.args.self.now c.args.n _ c.args.m p.askable.order p.context-known c.args.old _ below c.join.ensures
+    store_below c.args.self.now c.args.n _ c.args.m p.askable.order p.context-known c.args.old _ below (rw c.levels-levels.ensures at c.join.ensures)
 
 pub returns-in-Strict : goal.returns-in-Strict
 unfolding meaning
 returns-in-Strict c =
     let p = c.requires in
     store-strict c.args.self.now _ _ _ p.askable.order p.context-known c.args.old
-    (sym c.at_or_below.ensures ∙ c.if-at_or_below.false) c.in-Strict.is
+    (sym (rw c.levels-levels.ensures at c.at_or_below.ensures) ∙ c.if-at_or_below.false) c.in-Strict.is
 
 pub lowered-requires : goal.lowered-requires
 unfolding meaning
 lowered-requires c =
     let p = c.requires in
-    record { order = p.askable.order; context-known = p.context-known; mark = p.mark }
+    rw c.levels-levels.ensures (record { context-known = p.context-known; mark = p.mark })
 
 pub returns-in-Permissive : goal.returns-in-Permissive
 unfolding meaning
 returns-in-Permissive c =
     let p = c.requires in
     store_lowered c.args.self.now _ _ _ p.askable.order p.context-known c.args.old _
-    (sym c.at_or_below.ensures ∙ c.if-at_or_below.false) c.in-Permissive.is c.lowered.ensures
+    (sym (rw c.levels-levels.ensures at c.at_or_below.ensures) ∙ c.if-at_or_below.false) c.in-Permissive.is (rw c.levels-levels.ensures at c.lowered.ensures)
