@@ -37,7 +37,8 @@ impl<'a> HandOut<'a> {
         requires { field < self.now.request.fields }
         ensures { result ≡ (lattice self.now.levels.rows.now).le (level_of (mark_of (mark_at self.now.store.now field))) self.now.reader }
     {
-        self.levels.at_or_below(level_of(mark_at(self.store, field)), self.reader)
+        self.levels
+            .at_or_below(level_of(mark_at(self.store, field)), self.reader)
     }
 
     // Whether a field refuses the request: it is partial, at or below the reader.

@@ -23,7 +23,13 @@ pub fn report(file: &[u8]) -> Text
         return outcome::refused_text(Number::SheetLength.into());
     };
     let mut out = [0; LONGEST];
-    match beltuqash::run(run.sheet, run.store, u32::from(run.mode), run.fuel, &mut out) {
+    match beltuqash::run(
+        run.sheet,
+        run.store,
+        u32::from(run.mode),
+        run.fuel,
+        &mut out,
+    ) {
         Ok(units) => outcome::done_text(units, Parts::of(run.sheet).fields, &out),
         Err(refusal) => outcome::refused_text(refusal),
     }

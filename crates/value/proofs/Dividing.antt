@@ -2,17 +2,17 @@
 -- divisor plus the remainder; the remainder is smaller than the divisor, and it is 0 or has the divisor's sign. No other theorem says how
 -- `quot` and `rest` round: who changes them restates these.
 use mathlib.Core.Path.{◌≡◌, refl}
-use mathlib.Core.Bool.{true}
+use mathlib.Core.Bool.{true, ◌&&◌}
 use mathlib.Core.Logic.{◌↔◌, ◌⊎◌}
-use Prim.Native.Nat.{ℕ, suc, ◌*◌, ◌/◌, ◌≤◌, ◌<◌}
-use native.Mathlib.Nat.{le-div_iff_mul-le, div-lt_iff_lt-mul}
+use Prim.Native.Nat.{ℕ, suc, ◌*◌, ◌/◌, ◌≤◌, ◌<◌, suc-le-suc}
+use native.Mathlib.Nat.{le-div_iff_mul-le, div-lt_iff_lt-mul, div-le_self}
 use native.Mathlib.Omega.{arith}
 use lib.IntN.{ℤ, pos, negsuc, neg_ℤ, nat_abs, ◌+ℤ◌, ◌*ℤ◌}
 use lib.Signed.{non_neg, le_z}
 use mir.Syntax.{w32, w64}
 use mir.Val.{SFits}
 use Rattle.std.proofs.lemmas.Int.{ints}
-use Rattle.value.specs.Values.{least, exactly, floor, quot, rest, not_above}
+use Rattle.value.specs.Values.{least, greatest, exactly, floor, quot, rest, not_above}
 use Rattle.std.specs.Prelude.{Ok, Err}
 use Rattle.value.specs.declared.ArithmeticError.TheVariants.{OutOfRange}
 
@@ -55,3 +55,12 @@ module _ (x y : ℤ) (fx : SFits w32 x) (fy : SFits w32 y) where
 pub least_by_minus_one : (exactly (quot least (negsuc 0)) ≡ Err (OutOfRange (pos 2147483648))) × (exactly (rest least (negsuc 0)) ≡ Ok (record { n = pos 0 }))
 unfolding exactly
 least_by_minus_one = (refl, refl)
+
+-- ---- sizes
+pub size_floor : (x : ℤ) (b : ℕ) → nat_abs (floor x b) ≤ nat_abs x
+size_floor (pos a) b = div-le_self a b
+size_floor (negsuc a) b = suc-le-suc (div-le_self a b)
+
+-- a number from the least to the greatest is a value
+pub inside-fits : (z : ℤ) → (le_z least z && le_z z greatest) ≡ true → SFits w32 z
+inside-fits z e = grind (arith, ints)
