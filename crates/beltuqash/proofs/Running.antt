@@ -12,15 +12,18 @@ use Rattle.basis.proofs.Tests.{split}
 use Rattle.levels.specs.Levels.{count, right, lowest_of}
 use Rattle.levels.specs.Lattice.{lattice}
 use Rattle.levels.proofs.Bounds.{lowest_is}
-use Rattle.sections.specs.Sections.{levels_of, constants_of, nodes_of}
+use Rattle.sections.specs.Sections.{levels_of, fields_of, constants_of, nodes_of}
 use Rattle.sheet.specs.Load.{field_count, last_of, program_of}
 use Rattle.rules.specs.Ends.{stop_number, out_of_range, divisor_zero, not_below, partial_test, End, done, stopped}
 use Rattle.rules.specs.Rules.{exec}
 use Rattle.store.specs.Marks.{Mark, mode_of, mark_of}
 use Rattle.rules.specs.LevelMarks.{marking}
 use Rattle.store.specs.Stores.{mark_at, store_length, store_of}
-use Rattle.marks.specs.Inside.Words.{mark_in, work_of, Goes, Stops, left_in, place_in, number_in, why_of}
-use Rattle.marks.specs.Inside.Meanings.{meaning, First}
+use Rattle.marks.specs.Inside.Words.{blank, work_of, Goes, Stops, left_in, place_in, number_in, why_of}
+use Rattle.marks.specs.Inside.Meanings.{rows_in, LevelRun, meaning, First}
+use Rattle.marks.specs.declared.Cell.{Cell as Held}
+use Rattle.marks.specs.declared.Run.{Run}
+use Rattle.sections.specs.declared.Parts.{Parts}
 use Rattle.flow.specs.Inside.Tasks.{Fetched, stop_of, end_of, Told, CmdIn, Ran}
 use Rattle.store.proofs.Marks.{known_is, marks-known}
 use Rattle.marks.proofs.Marking.{level-mark}
@@ -31,10 +34,6 @@ use Rattle.basis.specs.Answer.{answer}
 use Rattle.beltuqash.specs.Calls.{ended, run_from}
 use Rattle.beltuqash.specs.Inside.Given.{Given}
 use Rattle.beltuqash.proofs.Checking.{few-fields, nodes-long, fits-long}
-
--- what is said of three lists is said of equal ones
-pub moved : (P : List ℕ → List ℕ → List ℕ → Type 0) {a b c x y z : List ℕ} → a ≡ x → b ≡ y → c ≡ z → P a b c → P x y z
-moved P e d f h = rw (e, d, f) at h
 
 -- ── a word that stops ───────────────────────────────────────────────────────────────────────
 
@@ -75,9 +74,27 @@ module _ (word fuel : ℕ) (told : Told word) where
 
 -- ── a run from a store that fits ────────────────────────────────────────────────────────────
 
--- the parts of a sheet that a run reads
-abbrev pub parts_of : List ℕ → List (List ℕ)
-parts_of sheet = levels_of sheet ∷ constants_of sheet ∷ nodes_of sheet ∷ []
+-- the run over a sheet in a mode
+pub record Starts (sheet : List ℕ) (mode : ℕ) (run : Run) : Type 0 where
+  pub levels : rows_in run ≡ levels_of sheet
+  pub fields : run.parts.fields.now ≡ fields_of sheet
+  pub constants : run.parts.constants.now ≡ constants_of sheet
+  pub nodes : run.parts.nodes.now ≡ nodes_of sheet
+  pub mode-is : run.mode ≡ mode_of mode
+  pub level-run : LevelRun run
+
+pub starts : {sheet : List ℕ} {mode : ℕ} {parts : Parts} {run : Run} → First parts mode run → parts.levels.now ≡ levels_of sheet → parts.fields.now ≡ fields_of sheet
+    → parts.constants.now ≡ constants_of sheet → parts.nodes.now ≡ nodes_of sheet → Starts sheet mode run
+starts first levels fields constants nodes =
+    let are = first.parts-are in
+    record {
+      levels = ap (λ (p : Parts). p.levels.now) are ∙ levels;
+      fields = ap (λ (p : Parts). p.fields.now) are ∙ fields;
+      constants = ap (λ (p : Parts). p.constants.now) are ∙ constants;
+      nodes = ap (λ (p : Parts). p.nodes.now) are ∙ nodes;
+      mode-is = first.mode-is;
+      level-run = first.level-run;
+    }
 
 bot-is : (rows : List ℕ) → lowest_of rows ≡ (lattice rows).bot
 unfolding lattice
@@ -91,47 +108,49 @@ some_level : (rows : List ℕ) → right rows ≡ true → 0 < count rows
 some_level rows h = omega (arith, (lowest_is rows h).level)
 
 -- the last command may be done
-pub task_in : {sheet store : List ℕ} {mode fuel room : ℕ} {work : List ℕ} {task : ℕ} → Given sheet store mode fuel room → Fetched store work → First (levels_of sheet) mode task
-    → CmdIn (parts_of sheet) work (last_of (nodes_of sheet)) task
+pub task_in : {sheet store : List ℕ} {mode fuel room : ℕ} {work : List Held} {run : Run} → Given sheet store mode fuel room → Fetched store work → Starts sheet mode run
+    → CmdIn run work (last_of run.parts.nodes.now) run.lowest
 unfolding meaning
-task_in {sheet} {store} {mode} {fuel} {room} {work} given fetched first =
+task_in {sheet} {store} {mode} {fuel} {room} {work} given fetched s =
     let taken = given.taken in
     let loaded = taken.loaded in
     let rows = levels_of sheet in
     let (some, few) = nodes-long sheet loaded in
     record {
       ready = record {
-        askable = first.level-run;
+        askable = s.level-run;
         fields = field_count sheet;
         few-fields = few-fields sheet loaded;
-        formed = loaded.nodes;
-        few-nodes = few;
+        formed = rw (s.nodes, s.constants) loaded.nodes;
+        few-nodes = rw s.nodes few;
         long = fetched.long;
-        words = λ i. rw (fetched_mark fetched i) (split (ltb i (field_count sheet))
+        words = λ i. rw (fetched_mark fetched i, s.levels) (split (ltb i (field_count sheet))
             (λ less. marks-known (mode_of mode) (count rows) (field_count sheet) store taken.marks i (ltb-true i _ less))
             (λ more. rw (blank-mark store (field_count sheet) (fits-long _ _ taken.fits) i (ltb-false i _ more)) (level-mark rows loaded.levels 0 (some_level rows loaded.levels)).1));
       };
-      inside = omega arith;
-      sort = loaded.command;
-      context = rw first.context (lowest_is rows loaded.levels).level;
+      inside = rw s.nodes (omega arith);
+      sort = rw s.nodes loaded.command;
+      context-known = rw (s.level-run.lowest, s.levels) (lowest_is rows loaded.levels).level;
     }
 
 -- the last command was done, on a work store
-pub record Done (sheet store : List ℕ) (mode : ℕ) (work : List ℕ) (task fuel : ℕ) (after : List ℕ) (word : ℕ) : Type 0 where
+pub record Done (sheet store : List ℕ) (mode : ℕ) (run : Run) (work : List Held) (fuel : ℕ) (after : List Held) (word : ℕ) : Type 0 where
   pub same : work_of mark_of work ≡ store_of store
-  pub first : First (levels_of sheet) mode task
-  pub ran : Ran (parts_of sheet) work (last_of (nodes_of sheet)) task fuel after word
+  pub starts : Starts sheet mode run
+  pub ran : Ran run work (last_of run.parts.nodes.now) run.lowest fuel after word
 
-module _ {sheet store : List ℕ} {mode : ℕ} {work : List ℕ} {task fuel : ℕ} {after : List ℕ} {word : ℕ} (d : Done sheet store mode work task fuel after word) where
+module _ {sheet store : List ℕ} {mode : ℕ} {run : Run} {work : List Held} {fuel : ℕ} {after : List Held} {word : ℕ} (d : Done sheet store mode run work fuel after word) where
   abbrev executed : End Mark
   executed = exec (marking (lattice (levels_of sheet)) (mode_of mode)) (program_of sheet) (lattice (levels_of sheet)).bot (store_of store) fuel
 
   runs_as : end_of word (work_of mark_of after) ≡ executed
   unfolding meaning
-  runs_as = rw (d.first.style, d.first.context, bot-is (levels_of sheet), d.same) at d.ran.is
+  runs_as =
+      let s = d.starts in
+      rw (s.mode-is, s.level-run.lowest, s.levels, s.constants, s.nodes, bot-is (levels_of sheet), d.same) at d.ran.is
 
   -- every mark is a byte
-  pub marks-few : (i : ℕ) → i < field_count sheet → mark_in (get_or after i 0) < 256
+  pub marks-few : (i : ℕ) → i < field_count sheet → (get_or after i blank).mark < 256
   unfolding meaning
   marks-few i h = omega (arith, (known_is _ _ (d.ran.ready.words i)).0)
 

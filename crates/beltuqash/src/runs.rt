@@ -8,10 +8,13 @@ ghost use Rattle.beltuqash.specs.Inside.Given.{Given};
 
 use basis::answer::Refusal;
 use basis::numbers::Number;
-use marks::words;
+use marks::words::Word;
+use marks::{Cell, Run};
 use sections::Parts;
 
-/// Runs a sheet that passes from a store that fits it, on a work store: only a run that is done writes.
+/// Runs a sheet that passes from a store that fits it, on a work store: only a run that is done writes. The work store lies on the stack
+/// once the sheet is judged, and not below that.
+#[inline(never)]
 pub fn run_from(
     sheet: &[u8],
     store: &[u8],
@@ -22,33 +25,27 @@ pub fn run_from(
     requires { Given sheet.now store.now mode fuel (length out.old) }
     ensures { Comes (run_from sheet.now store.now mode fuel out.old) (answer_of result) out.new }
 {
-    let parts = Parts::of(sheet);
-    let fields = parts.fields.len() / 8;
-    let mut work = [0u64; 64];
+    let run = Run::new(Parts::of(sheet), mode);
+    let fields = run.parts.fields.len() / 8;
+    let last = run.parts.nodes.len() / 8 - 1;
+    let mut work = [Cell::BLANK; 64];
     flow::work::fetch(store, &mut work, fields);
-    let task = marks::first_task(parts.levels, mode);
-    let word = flow::commands::run(
-        &[parts.levels, parts.constants, parts.nodes],
-        &mut work,
-        parts.nodes.len() / 8 - 1,
-        task,
-        fuel,
-    );
-    if words::STOP <= word {
+    let word = flow::commands::execute(&run, &mut work, last, run.lowest, fuel);
+    if word.is_stop() {
         return Err(stopped(word, fuel));
     }
     flow::work::deliver(&work, out, fields);
-    Ok(fuel - words::left_in(word))
+    Ok(fuel - word.left())
 }
 
 // What a run that stops comes to.
-fn stopped(word: u64, fuel: u32) -> Refusal
+fn stopped(word: Word, fuel: u32) -> Refusal
     requires { Told word × (left_in word ≤ fuel) }
     ensures { (fields : ℕ) (out : List ℕ) → refused result ≡ (ended fields fuel out (stop_of word)).answer }
 {
     Refusal {
-        number: Number::try_from(words::number_in(word)).unwrap(),
-        place: words::place_told(word),
-        units: fuel - words::left_in(word),
+        number: Number::try_from(word.number()).unwrap(),
+        place: word.place(),
+        units: fuel - word.left(),
     }
 }

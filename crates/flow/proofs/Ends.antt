@@ -9,7 +9,7 @@ use Rattle.basis.specs.Numbers as numbers
 use Rattle.value.specs.Values.{is_true}
 use Rattle.store.specs.Cells.{Store}
 use Rattle.rules.specs.Ends.{End, done, spent, stopped, choose}
-use Rattle.marks.specs.Inside.Words.{stop_from, Half, value_in, mark_in, Goes, Stops, left_in, place_in, number_in, why_of, Stop, Numbered}
+use Rattle.marks.specs.Inside.Words.{stop_from, Half, value_in, mark_in, Goes, Stops, left_in, place_in, number_in, why_of, Stopped, Numbered}
 use Rattle.flow.specs.Inside.Tasks.{or_stop, test_of, stop_of, end_of, Told}
 
 module _ {Mark : Type 0} where
@@ -63,7 +63,7 @@ bit-few true = omega arith
 bit-few false = omega arith
 
 -- the word of a run without fuel
-module _ {r place : ℕ} (s : Stop numbers.fuel_spent place 0 r) where
+module _ {r place : ℕ} (s : Stopped numbers.fuel_spent place 0 r) where
   pub stop_spent : {Mark : Type 0} → stop_of {Mark = Mark} r ≡ spent place
   unfolding stop_of
   stop_spent = rw (s.number_is, s.place_is)
@@ -74,7 +74,7 @@ module _ {r place : ℕ} (s : Stop numbers.fuel_spent place 0 r) where
       record { least = omega arith; most = omega arith; nothing = λ _. s.left_is }
 
 -- a stop's word with the fuel left
-module _ {r word left : ℕ} (s : Stop (number_in word) (place_in word) left r) (large : Stops word) (numbered : Numbered word) where
+module _ {r word left : ℕ} (s : Stopped (number_in word) (place_in word) left r) (large : Stops word) (numbered : Numbered word) where
   pub stop_handed : {Mark : Type 0} → stop_of {Mark = Mark} r ≡ stopped (why_of (number_in word)) (place_in word) left
   unfolding stop_of
   stop_handed =

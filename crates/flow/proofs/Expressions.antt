@@ -17,10 +17,11 @@ use Rattle.sheet.proofs.Trees.{held_there, exp_at-constant, exp_at-field, exp_at
 use Rattle.rules.specs.Ends.{Why, out_of_range, divisor_zero, Result, gives, stops, at, and_then}
 use Rattle.rules.specs.Rules.{Marking, computed, reading, operated, inverted, sealing, eval}
 use Rattle.store.specs.Cells.{Cell, cell, Store}
-use Rattle.marks.specs.Inside.Parts.{constants_in, nodes_in}
-use Rattle.marks.specs.Inside.Words.{value_in, mark_in, cell_in, work_at, work_of, Word, Goes, Stops, why_of, Stop}
-use Rattle.marks.specs.Inside.Meanings.{Meaning, Sees, Constant, Sealed, Read, Joined}
-use Rattle.flow.specs.Inside.Tasks.{meaning_in, ExpIn, Evaluated, Operated}
+use Rattle.marks.specs.Inside.Words.{blank, value_in, mark_in, cell_in, work_at, work_of, Holds, Goes, Stops, why_of, Stopped}
+use Rattle.marks.specs.declared.Cell.{Cell as Held}
+use Rattle.marks.specs.declared.Run.{Run}
+use Rattle.marks.specs.Inside.Meanings.{Meaning, meaning, Sees, Constant, Sealed, Read, Joined}
+use Rattle.flow.specs.Inside.Tasks.{ExpIn, Evaluated, Operated}
 use Rattle.marks.proofs.Results.{answers_gives, answers_stops, answer-gives, hands_on}
 
 -- an operator on two values: a value with the joined mark, or a stop at its node
@@ -116,8 +117,8 @@ unfolding held_in kinds
 right-below nodes n i k = held_there nodes n i 2 1 k (omega arith)
 
 -- a lower expression is worked out on the same store
-pub child_in_lem : {parts : List (List ℕ)} {work : List ℕ} {run n w : ℕ} → ExpIn parts work run n → ExpBelow (nodes_in parts) n w
-    → (w < n) × ExpIn parts work run w
+pub child_in_lem : {run : Run} {work : List Held} {n w : ℕ} → ExpIn run work n → ExpBelow run.parts.nodes.now n w
+    → (w < n) × ExpIn run work w
 child_in_lem p below =
     let inside = p.inside in
     let lower = below.lower in
@@ -126,7 +127,7 @@ child_in_lem p below =
 -- ── the word that answers for a node ────────────────────────────────────────────────────────
 
 -- a word made of a value and the number of a seen mark
-module _ (𝓢 : Meaning) {v : Value} {s : 𝓢.Seen} {mark r : ℕ} (made : Word v mark r) (sees : Sees 𝓢 s mark) where
+module _ (𝓢 : Meaning) {v : Value} {s : 𝓢.Seen} {mark r : ℕ} (made : Holds v mark r) (sees : Sees 𝓢 s mark) where
   seen_goes : Goes r
   seen_goes = omega (arith, made.mark-is, sees.few)
 
@@ -137,92 +138,92 @@ module _ (𝓢 : Meaning) {v : Value} {s : 𝓢.Seen} {mark r : ℕ} (made : Wor
   seen-known = rw made.mark-is sees.known
 
 -- an operator's word, on the values in two words
-module _ (parts : List (List ℕ)) (run n left right : ℕ) where
+module _ (run : Run) (n left right : ℕ) where
   abbrev 𝓞 : Meaning
-  𝓞 = meaning_in parts run
+  𝓞 = meaning run
 
   abbrev op : ℕ
-  op = op_at (nodes_in parts) n
+  op = op_at run.parts.nodes.now n
 
   abbrev seen : ℕ → 𝓞.Seen
   seen w = 𝓞.seen_of (mark_in w)
 
-  pub operated_word : {u : Value} {mark r : ℕ} → operator_of op (value_in left) (value_in right) ≡ Ok u → Joined 𝓞 (mark_in left) (mark_in right) mark → Word u mark r
-      → Operated parts run n left right r
+  pub operated_word : {u : Value} {mark r : ℕ} → operator_of op (value_in left) (value_in right) ≡ Ok u → Joined 𝓞 (mark_in left) (mark_in right) mark → Holds u mark r
+      → Operated run n left right r
   operated_word {u} {mark} {r} e sees made =
       answers_gives (seen_goes 𝓞 made sees)
       (operated-is 𝓞.marking n op (value_in left) (value_in right) (seen left) (seen right) u e ∙ ap gives (seen-cell 𝓞 made sees)) (seen-known 𝓞 made sees)
 
-  pub range_word : {z : ℤ} {l r : ℕ} → operator_of op (value_in left) (value_in right) ≡ Err (OutOfRange z) → Stop numbers.out_of_range n l r → Operated parts run n left right r
+  pub range_word : {z : ℤ} {l r : ℕ} → operator_of op (value_in left) (value_in right) ≡ Err (OutOfRange z) → Stopped numbers.out_of_range n l r → Operated run n left right r
   unfolding why_of
   range_word {z} {l} {r} e s =
       answers_stops s (omega arith, omega arith) (operated_range 𝓞.marking n op (value_in left) (value_in right) (seen left) (seen right) z e)
 
-  pub zero_word : {l r : ℕ} → operator_of op (value_in left) (value_in right) ≡ Err DivisorZero → Stop numbers.divisor_zero n l r → Operated parts run n left right r
+  pub zero_word : {l r : ℕ} → operator_of op (value_in left) (value_in right) ≡ Err DivisorZero → Stopped numbers.divisor_zero n l r → Operated run n left right r
   unfolding why_of
   zero_word {l} {r} e s =
       answers_stops s (omega arith, omega arith) (operated_zero 𝓞.marking n op (value_in left) (value_in right) (seen left) (seen right) e)
 
-module _ {parts : List (List ℕ)} {work : List ℕ} {run n : ℕ} (p : ExpIn parts work run n) where
+module _ {run : Run} {work : List Held} {n : ℕ} (p : ExpIn run work n) where
   abbrev 𝓢 : Meaning
-  𝓢 = meaning_in parts run
+  𝓢 = meaning run
 
   abbrev kind : ℕ
-  kind = kind_at (nodes_in parts) n
+  kind = kind_at run.parts.nodes.now n
 
   abbrev child : ℕ → ℕ
-  child k = slot_at (nodes_in parts) n k
+  child k = slot_at run.parts.nodes.now n k
 
   abbrev result : ℕ → Result (Cell 𝓢.Seen)
-  result w = eval 𝓢.marking (exp_at (constants_in parts) (nodes_in parts) w) (work_of 𝓢.mark_of work)
+  result w = eval 𝓢.marking (exp_at run.parts.constants.now run.parts.nodes.now w) (work_of 𝓢.mark_of work)
 
   -- the word of a value
-  seen_word : {r : ℕ} {v : Value} {mark : ℕ} {s : 𝓢.Seen} → Word v mark r → Sees 𝓢 s mark → result n ≡ gives (cell v s) → Evaluated parts work run n r
+  seen_word : {r : ℕ} {v : Value} {mark : ℕ} {s : 𝓢.Seen} → Holds v mark r → Sees 𝓢 s mark → result n ≡ gives (cell v s) → Evaluated run work n r
   seen_word made sees e = answers_gives (seen_goes 𝓢 made sees) (e ∙ ap gives (seen-cell 𝓢 made sees)) (seen-known 𝓢 made sees)
 
   -- a constant, and a field
-  pub constant_word : {r a : ℕ} {v : Value} {mark : ℕ} → kind ≡ 0 → a ≡ child 0 → v ≡ constant_at (constants_in parts) a → Constant 𝓢 mark → Word v mark r
-      → Evaluated parts work run n r × Goes r
+  pub constant_word : {r a : ℕ} {v : Value} {mark : ℕ} → kind ≡ 0 → a ≡ child 0 → v ≡ constant_at run.parts.constants.now a → Constant 𝓢 mark → Holds v mark r
+      → Evaluated run work n r × Goes r
   constant_word {r} {a} {v} {mark} k is value sees made = (
     seen_word made sees
         (eval-constant 𝓢.marking _ p.ready.formed _ p.inside _ k
-        ∙ sym (ap (λ (v : Value). gives (cell v 𝓢.marking.constant)) (value ∙ ap (constant_at (constants_in parts)) is))),
+        ∙ sym (ap (λ (v : Value). gives (cell v 𝓢.marking.constant)) (value ∙ ap (constant_at run.parts.constants.now) is))),
     seen_goes 𝓢 made sees,
   )
 
-  pub field_word : {r a : ℕ} {v : Value} {m mark : ℕ} → kind ≡ 1 → a ≡ child 0 → v ≡ value_in (get_or work a 0) → m ≡ mark_in (get_or work a 0) → Read 𝓢 a m mark → Word v mark r
-      → Evaluated parts work run n r × Goes r
+  pub field_word : {r a mark : ℕ} → kind ≡ 1 → a ≡ child 0 → Read 𝓢 a (get_or work a blank).mark mark → Holds (get_or work a blank).value mark r
+      → Evaluated run work n r × Goes r
   unfolding work_at reading
-  field_word {r} {a} {v} {m} {mark} k is value mark-is sees made = (
+  field_word {r} {a} {mark} k is sees made = (
     seen_word made sees
         (eval-field 𝓢.marking _ p.ready.formed _ p.inside _ k
-        ∙ rw (value, mark-is, is)),
+        ∙ rw is),
     seen_goes 𝓢 made sees,
   )
 
   -- a stop is handed on
-  pub left_stop_word : {r : ℕ} → 2 ≤ kind → Evaluated parts work run (child 0) r → Stops r → Evaluated parts work run n r
+  pub left_stop_word : {r : ℕ} → 2 ≤ kind → Evaluated run work (child 0) r → Stops r → Evaluated run work n r
   left_stop_word k left large = hands_on left large (λ why place. left-stops 𝓢.marking _ p.ready.formed _ p.inside _ why place k p.sort)
 
-  module _ {l : ℕ} (left : Evaluated parts work run (child 0) l) (goes : Goes l) where
-    pub not_word : {r : ℕ} {v : Value} {mark : ℕ} → kind ≡ 3 → v ≡ not_of (value_in l) → mark ≡ mark_in l → Word v mark r → Evaluated parts work run n r
+  module _ {l : ℕ} (left : Evaluated run work (child 0) l) (goes : Goes l) where
+    pub not_word : {r : ℕ} {v : Value} {mark : ℕ} → kind ≡ 3 → v ≡ not_of (value_in l) → mark ≡ mark_in l → Holds v mark r → Evaluated run work n r
     not_word {r} {v} {mark} k value is made =
         seen_word made (record { is = ap 𝓢.seen_of is; known = rw is (left.known goes); few = omega arith })
         (not_gives 𝓢.marking _ p.ready.formed _ p.inside _ _ _ (answer-gives left goes) k
         ∙ sym (ap (λ (v : Value). gives (cell v (𝓢.seen_of (mark_in l)))) value))
 
-    pub seal_word : {r : ℕ} {v : Value} {mark : ℕ} → kind ≡ 4 → v ≡ value_in l → Sealed 𝓢 mark → Word v mark r → Evaluated parts work run n r
+    pub seal_word : {r : ℕ} {v : Value} {mark : ℕ} → kind ≡ 4 → v ≡ value_in l → Sealed 𝓢 mark → Holds v mark r → Evaluated run work n r
     seal_word {r} {v} {mark} k value sees made =
         seen_word made sees
         (seal-gives 𝓢.marking _ p.ready.formed _ p.inside _ _ _ (answer-gives left goes) k
         ∙ sym (ap (λ (v : Value). gives (cell v 𝓢.marking.sealed)) value))
 
-    module _ (k : kind ≡ 2) {r : ℕ} (right : Evaluated parts work run (child 1) r) where
-      pub right_stop_word : Stops r → Evaluated parts work run n r
+    module _ (k : kind ≡ 2) {r : ℕ} (right : Evaluated run work (child 1) r) where
+      pub right_stop_word : Stops r → Evaluated run work n r
       right_stop_word large =
           hands_on right large (λ why place. right-stops 𝓢.marking _ p.ready.formed _ p.inside _ _ _ (answer-gives left goes) why place k)
 
-      pub operator_word : Goes r → {word : ℕ} → Operated parts run n l r word → Evaluated parts work run n word
+      pub operator_word : Goes r → {word : ℕ} → Operated run n l r word → Evaluated run work n word
       operator_word h operated = record {
         is = operated.is ∙ sym (both_give 𝓢.marking _ p.ready.formed _ p.inside _ _ _ (answer-gives left goes) _ _ k (answer-gives right h));
         known = operated.known;

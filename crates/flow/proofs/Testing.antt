@@ -12,13 +12,14 @@ use Rattle.nodes.specs.Nodes.{In, kind_at, slot_at, kinds, held_in}
 use Rattle.nodes.specs.Inside.Formed.{ExpBelow, WellFormed}
 use Rattle.sheet.specs.Trees.{Exp}
 use Rattle.sheet.proofs.Trees.{held_there}
-use Rattle.rules.specs.Ends.{Why, gives, stops, End, stopped, at, with, choose, spend}
+use Rattle.rules.specs.Ends.{Why, Result, gives, stops, End, stopped, at, with, choose, spend}
 use Rattle.rules.specs.Rules.{Marking, eval, branch, tested}
 use Rattle.store.specs.Cells.{cell, Store}
-use Rattle.marks.specs.Inside.Parts.{nodes_in}
-use Rattle.marks.specs.Inside.Words.{value_in, mark_in, Word, Goes, Stops, run_in, context_in}
-use Rattle.marks.specs.Inside.Meanings.{Meaning, Entered}
-use Rattle.flow.specs.Inside.Tasks.{meaning_in, ExpIn, Evaluated, CmdIn, Tested}
+use Rattle.marks.specs.Inside.Words.{Below, value_in, mark_in, Holds, Goes, Stops, why_of, Stopped, Met}
+use Rattle.marks.specs.declared.Cell.{Cell as Held}
+use Rattle.marks.specs.declared.Run.{Run}
+use Rattle.marks.specs.Inside.Meanings.{Meaning, meaning}
+use Rattle.flow.specs.Inside.Tasks.{ExpIn, Evaluated, CmdIn, Tested}
 use Rattle.marks.proofs.Results.{goes_number, answer-gives, answer-stops}
 use Rattle.flow.proofs.Ends.{test_stopped, test_side}
 
@@ -44,36 +45,39 @@ module _ {Mark Seen Context : Type 0} (𝓜 : Marking Mark Seen Context) (place 
 
 -- ── by the words of a test ──────────────────────────────────────────────────────────────────
 
-module _ (parts : List (List ℕ)) (work : List ℕ) (n task x : ℕ) (evaluated : Evaluated parts work (run_in task) (slot_at (nodes_in parts) n 0) x) where
+module _ (run : Run) (work : List Held) (n context x : ℕ) (evaluated : Evaluated run work (slot_at run.parts.nodes.now n 0) x) where
   abbrev 𝓢 : Meaning
-  𝓢 = meaning_in parts (run_in task)
+  𝓢 = meaning run
 
-  pub expression_stops : Stops x → Tested parts work n task x
+  pub expression_stops : Stops x → Tested run work n context x
   expression_stops large = record {
     is = λ left yes_side no_side. test_stopped _ x left yes_side no_side large ∙ sym (tested-stops _ _ _ _ _ left yes_side no_side _ _ (answer-stops evaluated large));
-    context = λ small. absurd (omega arith);
+    context-known = λ small. absurd (omega arith);
     number = evaluated.number;
   }
 
-  module _ (goes : Goes x) {k : ℕ} (entered : Entered 𝓢 n (context_in task) (mark_in x) k) where
-    pub test_refused : Stops k → Tested parts work n task k
-    test_refused large = record {
-      is = λ left yes_side no_side. test_stopped _ k left yes_side no_side large
-          ∙ sym (tested-refused _ _ _ _ _ left yes_side no_side _ _ (answer-gives evaluated goes) _ _ (answer-stops entered large));
-      context = λ small. absurd (omega arith);
-      number = entered.number;
+  module _ (goes : Goes x) where
+    abbrev after : Result 𝓢.Context
+    after = at n (𝓢.marking.enter (𝓢.context_of context) (𝓢.seen_of (mark_in x)))
+
+    pub test_refused : {number place : ℕ} → Met number × (after ≡ stops (why_of number) place) → {r : ℕ} → Stopped number place 0 r → Tested run work n context r
+    test_refused refused {r} made = record {
+      is = λ left yes_side no_side. test_stopped _ r left yes_side no_side made.stops
+          ∙ rw (made.number_is, made.place_is) (sym (tested-refused _ _ _ _ _ left yes_side no_side _ _ (answer-gives evaluated goes) _ _ refused.1));
+      context-known = λ small. absurd (omega (arith, made.stops));
+      number = λ _. rw made.number_is refused.0;
     }
 
     -- the test's value with the context after it
-    pub goes_on : Goes k → {r : ℕ} → Word (value_in x) k r → Tested parts work n task r
-    goes_on fine {r} made =
-        let few = (entered.known fine).1 in
+    pub goes_on : {k : ℕ} → (𝓢.KnownContext k × Below k) × (after ≡ gives (𝓢.context_of k)) → {r : ℕ} → Holds (value_in x) k r → Tested run work n context r
+    goes_on entered {r} made =
+        let few = entered.0.1 in
         let low : Goes r = omega (arith, made.mark-is) in
         record {
           is = λ left yes_side no_side. test_side 𝓢.context_of r left yes_side no_side low
               ∙ rw (made.value, made.mark-is)
-              (sym (tested_goes _ _ _ _ _ left yes_side no_side _ _ (answer-gives evaluated goes) _ (answer-gives entered fine)));
-          context = λ _. rw made.mark-is (entered.known fine).0;
+              (sym (tested_goes _ _ _ _ _ left yes_side no_side _ _ (answer-gives evaluated goes) _ entered.1));
+          context-known = λ _. rw made.mark-is entered.0.0;
           number = goes_number r low;
         }
 
@@ -87,8 +91,8 @@ test_below {s} nodes n i h =
     (λ k. held_there nodes n i 8 0 (eqb-true _ _ k) (omega arith))
     (λ k. held_there nodes n i 9 0 (omega (arith, eqb-false (kind_at s n) 8 k)) (omega arith))
 
-pub test_in : {parts : List (List ℕ)} {work : List ℕ} {n task : ℕ} → CmdIn parts work n task → 8 ≤ kind_at (nodes_in parts) n
-    → ExpIn parts work (run_in task) (slot_at (nodes_in parts) n 0)
+pub test_in : {run : Run} {work : List Held} {n context : ℕ} → CmdIn run work n context → 8 ≤ kind_at run.parts.nodes.now n
+    → ExpIn run work (slot_at run.parts.nodes.now n 0)
 test_in p h =
     let inside = p.inside in
     let below = test_below p.ready.formed _ inside h in

@@ -1,103 +1,106 @@
-// What an expression gives, by recursion on the node number. The parts of the sheet and the work store come behind a reference each, and the
-// answer is one number: a frame is a few registers. A constant or a field needs no call, an operator on two of them no frame: `eval` calls itself
-// below a not or a seal, so the compiler keeps it apart from `expression`.
-ghost use Rattle.std.specs.Prelude.{map, ◌<◌};
+// What an expression gives, by recursion on the node number. The run and the work store come behind a reference each, and the answer is a
+// word: a frame is a few registers. A constant or a field needs no call, an operator on two of them no frame: `eval` calls itself
+// below a not or a seal, so the compiler keeps it apart from `expression`. Kinds are their numbers, as in `nodes`: below 2 are the leaves.
+ghost use Rattle.std.specs.Prelude.{◌<◌};
 ghost use Rattle.nodes.specs.Nodes.{In, kind_at};
-ghost use Rattle.marks.specs.Inside.Parts.{nodes_in};
 ghost use Rattle.marks.specs.Inside.Words.{Place, mark_in, Goes};
-ghost use Rattle.marks.specs.Inside.Meanings.{Joins};
-ghost use Rattle.flow.specs.Inside.Tasks.{meaning_in, ExpIn, Evaluated, Operated};
+ghost use Rattle.marks.specs.Inside.Meanings.{meaning, Joins};
+ghost use Rattle.flow.specs.Inside.Tasks.{ExpIn, Evaluated, Operated};
 
 use basis::numbers::Number;
-use marks::parts::{constant_in, kind_in, op_in, slot_in};
-use marks::words::{STOP, mark_in, stop, value_in, word};
-use marks::{constant, join, read, sealed};
+use marks::parts::constant_at;
+use marks::words::Word;
+use marks::{Cell, Run};
+use nodes::{kind_of, op_of, slot};
 use value::{ArithmeticError, Operator};
 
 // The operator at node n, between the values in two words.
-fn operate(parts: &[&[u8]; 3], left: u64, n: usize, right: u64, run: u32) -> u64
-    requires { Joins (meaning_in (map (λ x. x.now) parts.now) run) (mark_in left) (mark_in right) × In (nodes_in (map (λ x. x.now) parts.now)) n × Place n }
-    ensures { Operated (map (λ x. x.now) parts.now) run n left right result }
+fn operate(run: &Run, left: Word, n: usize, right: Word) -> Word
+    requires { Joins (meaning run.now) (mark_in left) (mark_in right) × In run.now.parts.nodes.now n × Place n }
+    ensures { Operated run.now n left right result }
 {
-    match Operator::from(op_in(parts, n)).apply(value_in(left), value_in(right)) {
-        Ok(v) => word(v, join(parts, run, mark_in(left), mark_in(right))),
-        Err(ArithmeticError::OutOfRange(_)) => stop(Number::OutOfRange, n),
-        Err(ArithmeticError::DivisorZero) => stop(Number::DivisorZero, n),
+    match Operator::from(op_of(run.parts.nodes, n)).apply(left.value(), right.value()) {
+        Ok(v) => Word::new(v, run.join(left.mark(), right.mark())),
+        Err(ArithmeticError::OutOfRange(_)) => Word::stop(Number::OutOfRange, n),
+        Err(ArithmeticError::DivisorZero) => Word::stop(Number::DivisorZero, n),
     }
 }
 
 // The constant or the field at node n.
-fn leaf(parts: &[&[u8]; 3], work: &[u64; 64], n: usize, run: u32) -> u64
-    requires { ExpIn (map (λ x. x.now) parts.now) work.now run n × (kind_at (nodes_in (map (λ x. x.now) parts.now)) n < 2) }
-    ensures { Evaluated (map (λ x. x.now) parts.now) work.now run n result × Goes result }
+fn leaf(run: &Run, work: &[Cell; 64], n: usize) -> Word
+    requires { ExpIn run.now work.now n × (kind_at run.now.parts.nodes.now n < 2) }
+    ensures { Evaluated run.now work.now n result × Goes result }
 {
-    let a = slot_in(parts, n, 0);
-    if kind_in(parts, n) == 1 {
+    let nodes = run.parts.nodes;
+    let a = slot(nodes, n, 0);
+    if kind_of(nodes, n) == 1 {
         let held = work[a];
-        return word(value_in(held), read(parts, run, a, mark_in(held)));
+        return Word::new(held.value, run.read(a, held.mark));
     }
-    word(constant_in(parts, a), constant(parts, run))
+    Word::new(constant_at(run.parts.constants, a), run.constant())
 }
 
 // The expression at node n. An operator on two leaves, as most are, is answered without a frame.
 #[cycle(eval_expression)]
-pub fn expression(parts: &[&[u8]; 3], work: &[u64; 64], n: usize, run: u32) -> u64
-    requires { ExpIn (map (λ x. x.now) parts.now) work.now run n }
-    ensures { Evaluated (map (λ x. x.now) parts.now) work.now run n result }
+pub fn expression(run: &Run, work: &[Cell; 64], n: usize) -> Word
+    requires { ExpIn run.now work.now n }
+    ensures { Evaluated run.now work.now n result }
 {
-    if kind_in(parts, n) == 2 {
-        let a = slot_in(parts, n, 0);
-        if kind_in(parts, a) < 2 {
-            let left = leaf(parts, work, a, run);
-            let b = slot_in(parts, n, 1);
-            if kind_in(parts, b) < 2 {
-                let right = leaf(parts, work, b, run);
-                return operate(parts, left, n, right, run);
+    let nodes = run.parts.nodes;
+    if kind_of(nodes, n) == 2 {
+        let a = slot(nodes, n, 0);
+        if kind_of(nodes, a) < 2 {
+            let left = leaf(run, work, a);
+            let b = slot(nodes, n, 1);
+            if kind_of(nodes, b) < 2 {
+                let right = leaf(run, work, b);
+                return operate(run, left, n, right);
             }
         }
     }
-    eval(parts, work, n, run)
+    eval(run, work, n)
 }
 
 // The same by its parts.
 #[cycle(eval_expression)]
-fn eval(parts: &[&[u8]; 3], work: &[u64; 64], n: usize, run: u32) -> u64
-    requires { ExpIn (map (λ x. x.now) parts.now) work.now run n }
-    ensures { Evaluated (map (λ x. x.now) parts.now) work.now run n result }
+fn eval(run: &Run, work: &[Cell; 64], n: usize) -> Word
+    requires { ExpIn run.now work.now n }
+    ensures { Evaluated run.now work.now n result }
 {
-    let kind = kind_in(parts, n);
-    let a = slot_in(parts, n, 0);
+    let nodes = run.parts.nodes;
+    let kind = kind_of(nodes, n);
+    let a = slot(nodes, n, 0);
     if kind == 2 {
-        let left = if kind_in(parts, a) < 2 {
-            leaf(parts, work, a, run)
+        let left = if kind_of(nodes, a) < 2 {
+            leaf(run, work, a)
         } else {
-            let x = expression(parts, work, a, run);
-            if STOP <= x {
+            let x = expression(run, work, a);
+            if x.is_stop() {
                 return x;
             }
             x
         };
-        let b = slot_in(parts, n, 1);
-        let right = if kind_in(parts, b) < 2 {
-            leaf(parts, work, b, run)
+        let b = slot(nodes, n, 1);
+        let right = if kind_of(nodes, b) < 2 {
+            leaf(run, work, b)
         } else {
-            let y = expression(parts, work, b, run);
-            if STOP <= y {
+            let y = expression(run, work, b);
+            if y.is_stop() {
                 return y;
             }
             y
         };
-        return operate(parts, left, n, right, run);
+        return operate(run, left, n, right);
     }
     if kind < 2 {
-        return leaf(parts, work, n, run);
+        return leaf(run, work, n);
     }
-    let z = eval(parts, work, a, run);
-    if STOP <= z {
+    let z = eval(run, work, a);
+    if z.is_stop() {
         return z;
     }
     if kind == 3 {
-        return word(value_in(z).not(), mark_in(z));
+        return Word::new(z.value().not(), z.mark());
     }
-    word(value_in(z), sealed(parts, run))
+    Word::new(z.value(), run.sealed())
 }

@@ -1,31 +1,34 @@
-// A work store: a word for each field. It is filled from a store, and written out as one.
+// A work store: a cell for each field. It is filled from a store, and written out as one.
 ghost use Rattle.std.specs.Prelude.{◌≡◌, ℕ, ◌≤◌, ◌<◌, length, get_or, replicate};
 ghost use Rattle.store.specs.Marks.{mark_of};
 ghost use Rattle.store.specs.Stores.{store_length, store_over};
-ghost use Rattle.marks.specs.Inside.Words.{mark_in, work_of};
+ghost use Rattle.marks.specs.Inside.Words.{blank, work_of};
 ghost use Rattle.flow.specs.Inside.Tasks.{Fetched};
 
-use marks::words::{mark_in, value_in, word};
+use marks::Cell;
 use store::{mark_at, put_field, value_at};
 
 // Fills a work store with the fields of a store.
-pub fn fetch(store: &[u8], work: &mut [u64; 64], fields: usize)
-    requires { (fields ≤ 64) × (length store.now ≡ store_length fields) × (work.old ≡ replicate 64 0) }
+pub fn fetch(store: &[u8], work: &mut [Cell; 64], fields: usize)
+    requires { (fields ≤ 64) × (length store.now ≡ store_length fields) × (work.old ≡ replicate 64 blank) }
     ensures { Fetched store.now work.new }
 {
     for (field, held) in work[..fields].iter_mut().enumerate() {
-        *held = word(value_at(store, field), mark_at(store, field));
+        *held = Cell {
+            value: value_at(store, field),
+            mark: mark_at(store, field),
+        };
     }
 }
 
 // Writes so many fields of a work store to the front of `out`, as a store.
-pub fn deliver(work: &[u64; 64], out: &mut [u8], fields: usize)
-    requires { (fields ≤ 64) × (store_length fields ≤ length out.old) × ((i : ℕ) → i < fields → mark_in (get_or work.now i 0) < 256) }
+pub fn deliver(work: &[Cell; 64], out: &mut [u8], fields: usize)
+    requires { (fields ≤ 64) × (store_length fields ≤ length out.old) × ((i : ℕ) → i < fields → (get_or work.now i blank).mark < 256) }
     ensures { out.new ≡ store_over (work_of mark_of work.now) fields out.old }
 {
     out[0] = (fields % 256) as u8;
     out[1] = 0;
-    for (field, &word) in work[..fields].iter().enumerate() {
-        put_field(out, field, mark_in(word), value_in(word));
+    for (field, held) in work[..fields].iter().enumerate() {
+        put_field(out, field, held.mark, held.value);
     }
 }

@@ -1,5 +1,4 @@
--- The parts of a sheet, words that answer, marks that are levels by their numbers, and what the questions' answers come to where marks are levels.
-pub mod Sections
+-- Words that answer, marks that are levels by their numbers, and what the questions' answers come to where marks are levels.
 pub mod Results
 pub mod Marking
 pub mod LevelMarks

@@ -4,14 +4,14 @@ use native.Mathlib.Omega.{arith}
 use mathlib.Core.Path.{◌≡◌, refl, sym, ap, ◌∙◌}
 use mathlib.Core.Bool.{true, false, cond, ◌||◌}
 use mathlib.Core.List.{List}
-use borrow.Author.Tests.{ne_eqb}
 use Rattle.levels.specs.Levels.{count, below, right, join_of, meet_of}
 use Rattle.levels.specs.Lattice.{Lattice, lattice}
 use Rattle.levels.proofs.Joins.{join_above, join_idem}
 use Rattle.levels.proofs.Laws.{laws, le-at, join-at, meet-at}
 use Rattle.levels.proofs.Facts.{facts}
+use Rattle.store.specs.declared.Mode.{Mode}
 use Rattle.store.specs.declared.Mode.TheVariants.{Strict, Permissive}
-use Rattle.store.specs.Marks.{Mark, whole, partial, level_of, is_partial, mark_of, mode_of, mark_known}
+use Rattle.store.specs.Marks.{Mark, whole, partial, level_of, is_partial, mark_of, mark_known}
 use Rattle.store.proofs.Marks.{mark-whole, known_is, known_of}
 use Rattle.rules.specs.Ends.{not_below, Try, fine, fails}
 use Rattle.rules.specs.LevelMarks.{joined, stored}
@@ -64,30 +64,22 @@ level-mark rows h level inside =
 
 -- ── what an assignment leaves ───────────────────────────────────────────────────────────────
 
-mode_strict : (number : ℕ) → number ≡ 0 → mode_of number ≡ Strict
-unfolding mode_of
-mode_strict number e = rw e
-
-mode_permissive : (number : ℕ) → (number ≡ 0 → ⊥) → mode_of number ≡ Permissive
-unfolding mode_of
-mode_permissive number n = rw (ne_eqb number 0 n)
-
 -- on a field of level A
-module _ (𝓛 : Lattice) (number context A : ℕ) (m : Mark) where
+module _ (𝓛 : Lattice) (mode : Mode) (context A : ℕ) (m : Mark) where
   abbrev leaves : Try Mark
-  leaves = stored 𝓛 (mode_of number) (𝓛.le context A) context A m
+  leaves = stored 𝓛 mode (𝓛.le context A) context A m
 
   pub stored-below : 𝓛.le context A ≡ true → leaves ≡ fine (joined 𝓛 m (whole context))
   unfolding stored
   stored-below h = rw h
 
-  pub stored-strict : 𝓛.le context A ≡ false → number ≡ 0 → leaves ≡ fails not_below
+  pub stored-strict : 𝓛.le context A ≡ false → mode ≡ Strict → leaves ≡ fails not_below
   unfolding stored
-  stored-strict h mode = rw (h, mode_strict number mode)
+  stored-strict h is = rw (h, is)
 
-  pub stored_permissive : 𝓛.le context A ≡ false → (number ≡ 0 → ⊥) → leaves ≡ fine (partial (𝓛.meet context A))
+  pub stored_permissive : 𝓛.le context A ≡ false → mode ≡ Permissive → leaves ≡ fine (partial (𝓛.meet context A))
   unfolding stored
-  stored_permissive h mode = rw (h, mode_permissive number mode)
+  stored_permissive h is = rw (h, is)
 
 -- in a context that is a level, on a field with a known mark
 module _ (rows : List ℕ) (context old : ℕ) (known_old : mark_known (count rows) old ≡ true) (level : context < count rows) where

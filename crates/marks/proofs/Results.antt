@@ -2,14 +2,16 @@
 use Prim.Native.Nat.{ℕ, ◌+◌, ◌*◌, ◌%◌}
 use native.Mathlib.Omega.{arith}
 use mathlib.Core.Path.{◌≡◌, sym, ◌∙◌}
-use borrow.Author.Tests.{lt-ltb, le-ltb}
+use mathlib.Core.Bool.{true, false}
+use borrow.Author.Tests.{lt-ltb, le-ltb, leb-true, leb-false}
+use lib.Dec.{leb}
 use lib.IntN.{ℤ}
 use mir.Syntax.{w32}
 use mir.Val.{SFits}
 use mir.Facts.{to_z-of_z, Fits-of_z}
 use Rattle.value.specs.Bytes.{of_bits, bits_of}
 use Rattle.rules.specs.Ends.{Why, Result, gives, stops}
-use Rattle.marks.specs.Inside.Words.{upper_half, stop_from, Half, value_in, Goes, Stops, place_in, number_in, why_of, Stop, Met, Numbered, result_of, Answers}
+use Rattle.marks.specs.Inside.Words.{upper_half, stop_from, Half, value_in, Goes, Stops, place_in, number_in, why_of, Stopped, Met, Numbered, result_of, Answers}
 
 -- a value's bits are few, and give the value again
 pub bits_few : (z : ℤ) → SFits w32 z → Half (bits_of z)
@@ -22,6 +24,13 @@ value_back z bits mark f e =
     let few = bits_few z f in
     let value : (bits + mark * upper_half) % upper_half ≡ bits = omega arith in
     rw (value, e, to_z-of_z f)
+
+-- a word that is tested for a stop
+pub stops_so : {w : ℕ} → true ≡ leb stop_from w → Stops w
+stops_so e = leb-true _ _ (sym e)
+
+pub goes_so : {w : ℕ} → false ≡ leb stop_from w → Goes w
+goes_so e = omega (arith, leb-false _ _ (sym e))
 
 -- ── what a word says ────────────────────────────────────────────────────────────────────────
 
@@ -42,7 +51,7 @@ module _ {A : Type 0} {of : ℕ → A} {Known : ℕ → Type 0} {x : Result A} {
   pub answers_gives : Goes r → x ≡ gives (of r) → Known r → Answers of Known x r
   answers_gives goes e known = record { is = result_gives of r goes ∙ sym e; known = λ _. known; number = goes_number r goes }
 
-  pub answers_stops : {number place left : ℕ} → Stop number place left r → Met number → x ≡ stops (why_of number) place → Answers of Known x r
+  pub answers_stops : {number place left : ℕ} → Stopped number place left r → Met number → x ≡ stops (why_of number) place → Answers of Known x r
   answers_stops s met e = record {
     is = result_stops of r s.stops ∙ rw (s.number_is, s.place_is) (sym e);
     known = λ goes. absurd (omega (arith, s.stops));

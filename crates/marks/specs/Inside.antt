@@ -1,4 +1,3 @@
 -- What only contracts and proofs inside the product cite.
-pub mod Parts
 pub mod Words
 pub mod Meanings

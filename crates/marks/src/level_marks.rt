@@ -9,14 +9,14 @@ use levels::Levels;
 use store::{is_partial, level_of, partial_at};
 
 // The join of both levels, partial if either is.
-pub fn join(rows: &[u8], m: u32, k: u32) -> u32
-    requires { TwoMarks rows.now m k }
-    ensures { StandsFor rows.now (joined (lattice rows.now) (mark_of m) (mark_of k)) result }
+pub fn join(levels: Levels, m: u32, k: u32) -> u32
+    requires { TwoMarks levels.rows.now m k }
+    ensures { StandsFor levels.entry.rows.now (joined (lattice levels.entry.rows.now) (mark_of m) (mark_of k)) result }
 {
     if m == k {
         return m;
     }
-    let level = Levels { rows }.join(level_of(m), level_of(k));
+    let level = levels.join(level_of(m), level_of(k));
     if is_partial(m) | is_partial(k) {
         return partial_at(level);
     }
@@ -24,17 +24,17 @@ pub fn join(rows: &[u8], m: u32, k: u32) -> u32
 }
 
 // Whether a context lies at or below the level of a field with the old mark.
-pub fn at_or_below(rows: &[u8], context: u32, old: u32) -> bool
-    requires { Over rows.now context old }
-    ensures { result ≡ (lattice rows.now).le context (level_of (mark_of old)) }
+pub fn at_or_below(levels: Levels, context: u32, old: u32) -> bool
+    requires { Over levels.rows.now context old }
+    ensures { result ≡ (lattice levels.entry.rows.now).le context (level_of (mark_of old)) }
 {
-    Levels { rows }.at_or_below(context as usize, level_of(old))
+    levels.at_or_below(context as usize, level_of(old))
 }
 
 // The meet of a context and the level of a field with the old mark, partial.
-pub fn lowered(rows: &[u8], context: u32, old: u32) -> u32
-    requires { Over rows.now context old }
-    ensures { StandsFor rows.now (partial ((lattice rows.now).meet context (level_of (mark_of old)))) result }
+pub fn lowered(levels: Levels, context: u32, old: u32) -> u32
+    requires { Over levels.rows.now context old }
+    ensures { StandsFor levels.entry.rows.now (partial ((lattice levels.entry.rows.now).meet context (level_of (mark_of old)))) result }
 {
-    partial_at(Levels { rows }.meet(context as usize, level_of(old)))
+    partial_at(levels.meet(context as usize, level_of(old)))
 }

@@ -10,49 +10,46 @@ use Rattle.rules.specs.Ends.{End, done, spent, stopped, choose}
 use Rattle.rules.specs.Rules.{operated, eval, tested, exec}
 use Rattle.store.specs.Marks.{mark_of}
 use Rattle.store.specs.Stores.{store_of}
-use Rattle.marks.specs.Inside.Words.{stop_from, value_in, mark_in, cell_in, work_of, Stops, Goes, left_in, place_in, number_in, why_of, Numbered, Answers, run_in, context_in}
-use Rattle.marks.specs.Inside.Parts.{rows_in, constants_in, nodes_in}
-use Rattle.marks.specs.Inside.Meanings.{Meaning, meaning}
-
--- what the numbers of a run's marks mean
-abbrev pub meaning_in : List (List ℕ) → ℕ → Meaning
-meaning_in parts run = meaning (rows_in parts) run
+use Rattle.marks.specs.Inside.Words.{stop_from, blank, value_in, mark_in, cell_in, work_of, Stops, Goes, left_in, place_in, number_in, why_of, Numbered, Answers}
+use Rattle.marks.specs.Inside.Meanings.{meaning}
+use Rattle.marks.specs.declared.Cell.{Cell}
+use Rattle.marks.specs.declared.Run.{Run}
 
 -- a work store filled from a store: the same cells
-pub record Fetched (store work : List ℕ) : Type 0 where
+pub record Fetched (store : List ℕ) (work : List Cell) : Type 0 where
   pub is : work_of mark_of work ≡ store_of store
   pub long : length work ≡ 64
 
--- what a run works on: well-formed nodes for the counts, and a word with a known mark for each field, blank words beyond
-pub record Ready (parts : List (List ℕ)) (work : List ℕ) (run : ℕ) : Type 0 where
-  pub askable : (meaning_in parts run).Askable
+-- what a run works on: well-formed nodes for the counts, and a cell with a known mark for each field, blank ones beyond
+pub record Ready (run : Run) (work : List Cell) : Type 0 where
+  pub askable : (meaning run).Askable
   pub fields : ℕ
   pub few-fields : fields ≤ 64
-  pub formed : WellFormed (nodes_in parts) fields (length (constants_in parts) / 4)
-  pub few-nodes : length (nodes_in parts) ≤ 8192
+  pub formed : WellFormed run.parts.nodes.now fields (length run.parts.constants.now / 4)
+  pub few-nodes : length run.parts.nodes.now ≤ 8192
   pub long : length work ≡ 64
-  pub words : (i : ℕ) → (meaning_in parts run).KnownMark (mark_in (get_or work i 0))
+  pub words : (i : ℕ) → (meaning run).KnownMark (get_or work i blank).mark
 
 -- ── expressions ─────────────────────────────────────────────────────────────────────────────
 
 -- node n is an expression
-pub record ExpIn (parts : List (List ℕ)) (work : List ℕ) (run n : ℕ) : Type 0 where
-  pub ready : Ready parts work run
-  pub inside : In (nodes_in parts) n
-  pub sort : kind_at (nodes_in parts) n ≤ 4
+pub record ExpIn (run : Run) (work : List Cell) (n : ℕ) : Type 0 where
+  pub ready : Ready run work
+  pub inside : In run.parts.nodes.now n
+  pub sort : kind_at run.parts.nodes.now n ≤ 4
 
 -- the word r has what the expression at node n gives
-abbrev pub Evaluated : List (List ℕ) → List ℕ → ℕ → ℕ → ℕ → Type 0
-Evaluated parts work run n r =
-    let 𝓢 = meaning_in parts run in
-    Answers (cell_in 𝓢.seen_of) (λ w. 𝓢.KnownSeen (mark_in w)) (eval 𝓢.marking (exp_at (constants_in parts) (nodes_in parts) n) (work_of 𝓢.mark_of work)) r
+abbrev pub Evaluated : Run → List Cell → ℕ → ℕ → Type 0
+Evaluated run work n r =
+    let 𝓢 = meaning run in
+    Answers (cell_in 𝓢.seen_of) (λ w. 𝓢.KnownSeen (mark_in w)) (eval 𝓢.marking (exp_at run.parts.constants.now run.parts.nodes.now n) (work_of 𝓢.mark_of work)) r
 
 -- the word r has what the operator at node n gives on the values in two words
-abbrev pub Operated : List (List ℕ) → ℕ → ℕ → ℕ → ℕ → ℕ → Type 0
-Operated parts run n left right r =
-    let 𝓢 = meaning_in parts run in
+abbrev pub Operated : Run → ℕ → ℕ → ℕ → ℕ → Type 0
+Operated run n left right r =
+    let 𝓢 = meaning run in
     Answers (cell_in 𝓢.seen_of) (λ w. 𝓢.KnownSeen (mark_in w))
-    (operated 𝓢.marking n (op_at (nodes_in parts) n) (cell_in 𝓢.seen_of left) (cell_in 𝓢.seen_of right)) r
+    (operated 𝓢.marking n (op_at run.parts.nodes.now n) (cell_in 𝓢.seen_of left) (cell_in 𝓢.seen_of right)) r
 
 -- ── commands ────────────────────────────────────────────────────────────────────────────────
 
@@ -78,34 +75,34 @@ pub record Told (word : ℕ) : Type 0 where
   pub most : number_in word ≤ numbers.partial_test
   pub nothing : number_in word ≡ numbers.fuel_spent → left_in word ≡ 0
 
--- node n is a command, and the task's context is known
-pub record CmdIn (parts : List (List ℕ)) (work : List ℕ) (n task : ℕ) : Type 0 where
-  pub ready : Ready parts work (run_in task)
-  pub inside : In (nodes_in parts) n
-  pub sort : 5 ≤ kind_at (nodes_in parts) n
-  pub context : (meaning_in parts (run_in task)).KnownContext (context_in task)
+-- node n is a command, and the context is known
+pub record CmdIn (run : Run) (work : List Cell) (n context : ℕ) : Type 0 where
+  pub ready : Ready run work
+  pub inside : In run.parts.nodes.now n
+  pub sort : 5 ≤ kind_at run.parts.nodes.now n
+  pub context-known : (meaning run).KnownContext context
 
 -- the word r has what the test of node n comes to, once its unit is spent
-pub record Tested (parts : List (List ℕ)) (work : List ℕ) (n task r : ℕ) : Type 0 where
-  pub is : (left : ℕ) (yes_side no_side : (meaning_in parts (run_in task)).Context → ℕ → End (meaning_in parts (run_in task)).Mark)
-      → test_of (meaning_in parts (run_in task)).context_of r left yes_side no_side
-      ≡ tested (meaning_in parts (run_in task)).marking n (exp_at (constants_in parts) (nodes_in parts) (slot_at (nodes_in parts) n 0))
-      ((meaning_in parts (run_in task)).context_of (context_in task)) (work_of (meaning_in parts (run_in task)).mark_of work) (suc left) yes_side no_side
-  pub context : Goes r → (meaning_in parts (run_in task)).KnownContext (mark_in r)
+pub record Tested (run : Run) (work : List Cell) (n context r : ℕ) : Type 0 where
+  pub is : (left : ℕ) (yes_side no_side : (meaning run).Context → ℕ → End (meaning run).Mark)
+      → test_of (meaning run).context_of r left yes_side no_side
+      ≡ tested (meaning run).marking n (exp_at run.parts.constants.now run.parts.nodes.now (slot_at run.parts.nodes.now n 0))
+      ((meaning run).context_of context) (work_of (meaning run).mark_of work) (suc left) yes_side no_side
+  pub context-known : Goes r → (meaning run).KnownContext (mark_in r)
   pub number : Numbered r
 
 -- the word r and the work store have what the assignment at node n comes to, once its unit is spent
-pub record Assigned (parts : List (List ℕ)) (work : List ℕ) (n task : ℕ) (after : List ℕ) (r : ℕ) : Type 0 where
-  pub is : (left : ℕ) → or_stop r left (done (work_of (meaning_in parts (run_in task)).mark_of after) left)
-      ≡ exec (meaning_in parts (run_in task)).marking (cmd_at (constants_in parts) (nodes_in parts) n)
-      ((meaning_in parts (run_in task)).context_of (context_in task)) (work_of (meaning_in parts (run_in task)).mark_of work) (suc left)
-  pub ready : Ready parts after (run_in task)
+pub record Assigned (run : Run) (work : List Cell) (n context : ℕ) (after : List Cell) (r : ℕ) : Type 0 where
+  pub is : (left : ℕ) → or_stop r left (done (work_of (meaning run).mark_of after) left)
+      ≡ exec (meaning run).marking (cmd_at run.parts.constants.now run.parts.nodes.now n)
+      ((meaning run).context_of context) (work_of (meaning run).mark_of work) (suc left)
+  pub ready : Ready run after
   pub number : Numbered r
 
 -- the word r and the work store have what the command at node n comes to
-pub record Ran (parts : List (List ℕ)) (work : List ℕ) (n task fuel : ℕ) (after : List ℕ) (r : ℕ) : Type 0 where
-  pub is : end_of r (work_of (meaning_in parts (run_in task)).mark_of after)
-      ≡ exec (meaning_in parts (run_in task)).marking (cmd_at (constants_in parts) (nodes_in parts) n)
-      ((meaning_in parts (run_in task)).context_of (context_in task)) (work_of (meaning_in parts (run_in task)).mark_of work) fuel
-  pub ready : Ready parts after (run_in task)
+pub record Ran (run : Run) (work : List Cell) (n context fuel : ℕ) (after : List Cell) (r : ℕ) : Type 0 where
+  pub is : end_of r (work_of (meaning run).mark_of after)
+      ≡ exec (meaning run).marking (cmd_at run.parts.constants.now run.parts.nodes.now n)
+      ((meaning run).context_of context) (work_of (meaning run).mark_of work) fuel
+  pub ready : Ready run after
   pub told : Stops r → Told r

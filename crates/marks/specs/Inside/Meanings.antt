@@ -1,14 +1,16 @@
--- What the numbers of marks mean. A run's functions ask about marks by their numbers, through this crate's questions alone, and a run's own
--- number says which marks they are. Nothing else in a run knows: each contract reads "whatever the numbers of this run mean".
-use Rattle.std.specs.Prelude.{ℕ, ◌/◌, ◌%◌, ◌<◌, ◌≡◌, true, List}
+-- What the numbers of marks mean. A run's functions ask about marks by their numbers, through this crate's questions alone, and the run
+-- says which marks they are. Nothing else in a run knows: each contract reads "whatever the numbers of this run mean".
+use Rattle.std.specs.Prelude.{ℕ, Result as Outcome, ◌<◌, ◌≡◌, true, List}
 use Rattle.levels.specs.Levels.{count, right, lowest_of, highest_of}
 use Rattle.levels.specs.Lattice.{lattice}
 use Rattle.rules.specs.Rules.{Marking}
 use Rattle.rules.specs.Ends.{at}
 use Rattle.rules.specs.LevelMarks.{marking}
-use Rattle.store.specs.declared.Mode.{Mode}
 use Rattle.store.specs.Marks.{Mark, mode_of, mark_of, mark_known}
-use Rattle.marks.specs.Inside.Words.{Half, Below, Place, Answers, run_in, context_in}
+use Rattle.marks.specs.Inside.Words.{Below, Place, Asked}
+use Rattle.sections.specs.declared.Parts.{Parts}
+use Rattle.marks.specs.declared.Stop.{Stop as Halt}
+use Rattle.marks.specs.declared.Run.{Run}
 
 pub record Meaning : Type 1 where
   -- the marks, and the rules' answers about them
@@ -49,14 +51,14 @@ module _ (𝓢 : Meaning) where
   Joined m k r = Sees (𝓢.marking.join (𝓢.seen_of m) (𝓢.seen_of k)) r
 
   -- the context after the test at node n, or a stop there
-  abbrev pub Entered : ℕ → ℕ → ℕ → ℕ → Type 0
+  abbrev pub Entered : ℕ → ℕ → ℕ → Outcome ℕ Halt → Type 0
   Entered n context m r =
-      Answers 𝓢.context_of (λ c. 𝓢.KnownContext c × Below c) (at n (𝓢.marking.enter (𝓢.context_of context) (𝓢.seen_of m))) r
+      Asked 𝓢.context_of (λ c. 𝓢.KnownContext c × Below c) (at n (𝓢.marking.enter (𝓢.context_of context) (𝓢.seen_of m))) r
 
   -- the mark that the assignment at node n leaves, or a stop there
-  abbrev pub Stored : ℕ → ℕ → ℕ → ℕ → ℕ → Type 0
+  abbrev pub Stored : ℕ → ℕ → ℕ → ℕ → Outcome ℕ Halt → Type 0
   Stored n context old m r =
-      Answers 𝓢.mark_of (λ k. 𝓢.KnownMark k × Half k) (at n (𝓢.marking.store n (𝓢.context_of context) (𝓢.mark_of old) (𝓢.seen_of m))) r
+      Asked 𝓢.mark_of 𝓢.KnownMark (at n (𝓢.marking.store n (𝓢.context_of context) (𝓢.mark_of old) (𝓢.seen_of m))) r
 
   -- what each may be asked
   pub record Joins (m k : ℕ) : Type 0 where
@@ -79,43 +81,23 @@ module _ (𝓢 : Meaning) where
 
 -- ── levels ──────────────────────────────────────────────────────────────────────────────────
 
--- a run's own number: bits 0 to 7 the style, bits 8 to 15 the mark of a constant, bits 16 to 31 the mark of a seal
-abbrev pub constant_from : ℕ
-constant_from = 256
-
-abbrev pub seal_from : ℕ
-seal_from = 65536
-
-abbrev pub style_in : ℕ → ℕ
-style_in run = run % constant_from
-
-abbrev pub constant_in : ℕ → ℕ
-constant_in run = run / constant_from % constant_from
-
-abbrev pub seal_in : ℕ → ℕ
-seal_in run = run / seal_from
-
--- a run made of the three
-pub record Run (style constant seal r : ℕ) : Type 0 where
-  pub style-is : style_in r ≡ style
-  pub constant-is : constant_in r ≡ constant
-  pub seal-is : seal_in r ≡ seal
+-- the rows of a run's levels
+abbrev pub rows_in : Run → List ℕ
+rows_in run = run.parts.levels.now
 
 -- right rows, whose lowest and highest level the run names
-pub record LevelRun (rows : List ℕ) (run : ℕ) : Type 0 where
-  pub order : right rows ≡ true
-  pub constant : constant_in run ≡ lowest_of rows
-  pub seal : seal_in run ≡ highest_of rows
+pub record LevelRun (run : Run) : Type 0 where
+  pub order : right (rows_in run) ≡ true
+  pub lowest : run.lowest ≡ lowest_of (rows_in run)
+  pub highest : run.highest ≡ highest_of (rows_in run)
 
--- right rows, and two known marks
+-- two known marks
 pub record TwoMarks (rows : List ℕ) (m k : ℕ) : Type 0 where
-  pub order : right rows ≡ true
   pub first : mark_known (count rows) m ≡ true
   pub second : mark_known (count rows) k ≡ true
 
--- right rows, a context that is a level, and a known mark
+-- a context that is a level, and a known mark
 pub record Over (rows : List ℕ) (context m : ℕ) : Type 0 where
-  pub order : right rows ≡ true
   pub context-known : context < count rows
   pub mark : mark_known (count rows) m ≡ true
 
@@ -123,30 +105,26 @@ pub record Over (rows : List ℕ) (context m : ℕ) : Type 0 where
 abbrev pub StandsFor : List ℕ → Mark → ℕ → Type 0
 StandsFor rows m r = (mark_of r ≡ m) × (mark_known (count rows) r ≡ true)
 
+-- ── what the numbers of a run mean ──────────────────────────────────────────────────────────
+
 -- A mark's number is its byte, and a context's number its level.
-abbrev pub level_marks : List ℕ → Mode → ℕ → Meaning
-level_marks rows mode run = record {
+unfoldable pub meaning : Run → Meaning
+meaning run = record {
   Mark = Mark;
   Seen = Mark;
   Context = ℕ;
-  marking = marking (lattice rows) mode;
+  marking = marking (lattice (rows_in run)) run.mode;
   mark_of = mark_of;
   seen_of = mark_of;
   context_of = λ c. c;
-  KnownMark = λ m. mark_known (count rows) m ≡ true;
-  KnownSeen = λ m. mark_known (count rows) m ≡ true;
-  KnownContext = λ c. c < count rows;
-  Askable = LevelRun rows run;
+  KnownMark = λ m. mark_known (count (rows_in run)) m ≡ true;
+  KnownSeen = λ m. mark_known (count (rows_in run)) m ≡ true;
+  KnownContext = λ c. c < count (rows_in run);
+  Askable = LevelRun run;
 }
 
--- ── what the numbers of a run mean ──────────────────────────────────────────────────────────
-
--- styles 0 and 1: levels, strict and permissive
-unfoldable pub meaning : List ℕ → ℕ → Meaning
-meaning rows run = level_marks rows (mode_of (style_in run)) run
-
--- the task that a run over levels starts with
-pub record First (rows : List ℕ) (mode task : ℕ) : Type 0 where
-  pub style : style_in (run_in task) ≡ mode
-  pub level-run : LevelRun rows (run_in task)
-  pub context : context_in task ≡ lowest_of rows
+-- the run over the parts of a sheet in a mode, by its number
+pub record First (parts : Parts) (mode : ℕ) (run : Run) : Type 0 where
+  pub parts-are : run.parts ≡ parts
+  pub mode-is : run.mode ≡ mode_of mode
+  pub level-run : LevelRun run

@@ -7,5 +7,5 @@ use Rattle.beltuqash.proofs.runs.stopped.Goals as goal
 
 pub returns : goal.returns
 returns c = λ fields out.
-    let number_is : number_of c.unwrap.result ≡ number_in c.args.word = rw c.unwrap.ensures at c.try_from.ensures ∙ c.number_in.ensures in
-    rw (number_is, c.place_told.ensures, c.left_in.ensures) (sym (stop_answer c.args.word c.args.fuel c.requires.0 fields out))
+    let number_is : number_of c.unwrap.result ≡ number_in c.args.word = rw c.unwrap.ensures at c.try_from.ensures ∙ c.number.ensures in
+    rw (number_is, c.place.ensures, c.left.ensures) (sym (stop_answer c.args.word c.args.fuel c.requires.0 fields out))

@@ -15,24 +15,18 @@ pub bounds-work-a : goal.bounds-work-a
 bounds-work-a c =
     let p = c.requires.0 in
     let few = p.ready.few-fields in
-    omega (arith, c.slot_in-a.ensures.0, held_field p.ready.formed _ p.inside (sym c.kind_in.ensures ∙ c.if-kind_in-eq1.true))
+    omega (arith, c.slot-a.ensures.0, held_field p.ready.formed _ p.inside (sym c.kind_of.ensures ∙ c.if-kind_of-eq1.true))
 
-pub read-requires : goal.read-requires
-read-requires c = rw c.mark_in.ensures (c.requires.0.ready.words _)
+pub returns-then-kind_of-eq1 : goal.returns-then-kind_of-eq1
+returns-then-kind_of-eq1 c =
+    field_word c.requires.0 (sym c.kind_of.ensures ∙ c.if-kind_of-eq1.true) c.slot-a.ensures.0 c.read.ensures c.new.ensures
 
-pub returns-then-kind_in-eq1 : goal.returns-then-kind_in-eq1
-returns-then-kind_in-eq1 c =
-    field_word c.requires.0 (sym c.kind_in.ensures ∙ c.if-kind_in-eq1.true) c.slot_in-a.ensures.0 c.value_in.ensures c.mark_in.ensures c.read.ensures c.word.ensures
-
-pub constant_in-requires : goal.constant_in-requires
+pub constant_at-requires : goal.constant_at-requires
 unfolding held_in kinds
-constant_in-requires c =
+constant_at-requires c =
     let p = c.requires.0 in
-    rw c.slot_in-a.ensures.0 (held_there p.ready.formed _ p.inside 0 0 (no_field c.kind_in.ensures c.requires.1 c.if-kind_in-eq1.false) (omega arith))
-
-pub constant-requires : goal.constant-requires
-constant-requires c = c.requires.0.ready.askable
+    rw c.slot-a.ensures.0 (held_there p.ready.formed _ p.inside 0 0 (no_field c.kind_of.ensures c.requires.1 c.if-kind_of-eq1.false) (omega arith))
 
 pub returns : goal.returns
 returns c =
-    constant_word c.requires.0 (no_field c.kind_in.ensures c.requires.1 c.if-kind_in-eq1.false) c.slot_in-a.ensures.0 c.constant_in.ensures c.constant.ensures c.word-2.ensures
+    constant_word c.requires.0 (no_field c.kind_of.ensures c.requires.1 c.if-kind_of-eq1.false) c.slot-a.ensures.0 c.constant_at.ensures c.constant.ensures c.new-2.ensures

@@ -6,13 +6,13 @@ use mathlib.Core.List.{List, ◌∷◌}
 use lib.Seq.{sets}
 use Rattle.std.proofs.lemmas.List.{get_or-take}
 use Rattle.value.specs.Bytes.{bytes_of}
-use Rattle.value.specs.declared.Value.{Value}
 use Rattle.store.specs.Marks.{mark_of}
 use Rattle.store.specs.Stores.{entry_at, entry_of, store_entries, store_bytes}
-use Rattle.marks.specs.Inside.Words.{work_at, work_of}
+use Rattle.marks.specs.Inside.Words.{blank, work_at, work_of}
+use Rattle.marks.specs.declared.Cell.{Cell as Held}
 use Rattle.basis.proofs.Filling.{headed, headed_length, filled, fill_first, fill_next, fill_last}
 use Rattle.store.proofs.Entries.{entry_length_lem, no_entries, one_entry_more, entries-length}
-use Rattle.flow.proofs.Fetching.{word_entry}
+use Rattle.flow.proofs.Fetching.{cell_entry}
 use Rattle.flow.proofs.work.deliver.Goals as goal
 
 pub loop-field-init : goal.loop-field-init
@@ -23,10 +23,9 @@ loop-field-init c =
 
 pub put_field-requires : goal.put_field-requires
 put_field-requires c =
-    let inside : c.loop-field.field < c.args.fields = omega arith in
-    let few = rw (get_or-take c.args.fields c.args.work.now c.loop-field.field 0 inside) at c.mark_in.ensures in (
+    let inside : c.loop-field.field < c.args.fields = omega arith in (
       omega (arith, inside, c.requires.1, c.loop-field.auto.out, headed_length (c.args.fields % 256) c.args.out.now),
-      omega (arith, few, c.requires.2 _ inside),
+      rw (get_or-take c.args.fields c.args.work.now c.loop-field.field blank inside) (c.requires.2 _ inside),
     )
 
 pub loop-field-preserved : goal.loop-field-preserved
@@ -37,9 +36,9 @@ loop-field-preserved c =
     let i = c.loop-field.field in
     let count = c.args.fields % 256 in
     let inside : i < c.args.fields = omega arith in
-    let taken = get_or-take c.args.fields c.args.work.now i 0 inside in
+    let taken = get_or-take c.args.fields c.args.work.now i blank inside in
     c.put_field.ensures
-    ∙ ap₂ (λ (l e : List ℕ). sets l (entry_at i) e) c.loop-field.invariant (ap₂ (λ (b : ℕ) (v : Value). b ∷ bytes_of v.n) (rw taken at c.mark_in.ensures) (rw taken at c.value_in.ensures) ∙ word_entry _)
+    ∙ ap₂ (λ (l e : List ℕ). sets l (entry_at i) e) c.loop-field.invariant (ap (λ (held : Held). held.mark ∷ bytes_of held.value.n) taken ∙ cell_entry _)
     ∙ fill_next count (store_entries σ i) (entry_of (σ i)) (entry_at i) (entry_at (i + 1)) (headed count z) (omega (arith, entries-length σ i)) (omega (arith, entry_length_lem (σ i)))
     (omega (arith, c.requires.1, headed_length count z))
     ∙ ap (λ (l : List ℕ). filled count l (entry_at (i + 1)) (headed count z)) (one_entry_more σ i)

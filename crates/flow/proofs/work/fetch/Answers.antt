@@ -1,6 +1,6 @@
 -- One field more at each turn; past the last one the work store is filled.
 use native.Mathlib.Omega.{arith}
-use mathlib.Core.Path.{◌≡◌, ap, ap₂, ◌∙◌}
+use mathlib.Core.Path.{◌≡◌, ap, ap₂}
 use Rattle.std.proofs.lemmas.List.{drop-replicate}
 use Rattle.store.specs.Cells.{cell}
 use Rattle.store.specs.Marks.{mark_of}
@@ -12,7 +12,7 @@ pub loop-field-preserved : goal.loop-field-preserved
 unfolding cell_at
 loop-field-preserved c =
     filled_more c.args.store.now c.loop-field.held-items _ _ (omega (arith, c.loop-field-test.true, c.loop-field.auto.held-items)) c.loop-field.invariant
-    (ap₂ cell (c.word.ensures.value ∙ c.value_at.ensures) (ap mark_of (c.word.ensures.mark-is ∙ c.mark_at.ensures.0)))
+    (ap₂ cell c.value_at.ensures (ap mark_of c.mark_at.ensures.0))
 
 pub returns : goal.returns
 returns c =

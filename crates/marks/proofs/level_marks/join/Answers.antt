@@ -15,9 +15,9 @@ use Rattle.marks.proofs.level_marks.join.Goals as goal
 
 pub returns-then-m-k : goal.returns-then-m-k
 returns-then-m-k c =
-    let rows = c.args.rows.now in
+    let rows = c.args.levels.rows.now in
     let m = c.args.m in
-    (joined_same rows m c.requires.order c.requires.first ∙ ap (λ (k : ℕ). joined (lattice rows) (mark_of m) (mark_of k)) c.if-m-k.true, c.requires.first)
+    (joined_same rows m c.args.levels.order c.requires.first ∙ ap (λ (k : ℕ). joined (lattice rows) (mark_of m) (mark_of k)) c.if-m-k.true, c.requires.first)
 
 pub level_of-requires : goal.level_of-requires
 level_of-requires c = (known_is _ _ c.requires.first).0
@@ -34,7 +34,7 @@ level_few : (rows : List ℕ) {level : ℕ} → right rows ≡ true → level < 
 level_few rows order h = omega (arith, h, (facts rows order).few)
 
 pub partial_at-requires : goal.partial_at-requires
-partial_at-requires c = level_few c.args.rows.now c.requires.order c.join-level.ensures.1
+partial_at-requires c = level_few c.args.levels.rows.now c.args.levels.order c.join-level.ensures.1
 
 pub returns-then-is_partial : goal.returns-then-is_partial
 returns-then-is_partial c =
@@ -45,13 +45,13 @@ returns-then-is_partial c =
     (made ∙ joined_partial _ _ _ p.first p.second _ level_is (sym either ∙ c.if-is_partial.true), known_at _ _ made few c.join-level.ensures.1)
 
 pub overflow_cast-result : goal.overflow_cast-result
-overflow_cast-result c = omega (arith, level_few c.args.rows.now c.requires.order c.join-level.ensures.1)
+overflow_cast-result c = omega (arith, level_few c.args.levels.rows.now c.args.levels.order c.join-level.ensures.1)
 
 pub returns : goal.returns
 returns c =
     let p = c.requires in
     let level_is = rw (c.level_of.ensures.0, c.level_of-2.ensures.0) at c.join-level.ensures.0 in
     let either = ap₂ (λ (b d : Bool). b || d) c.is_partial.ensures c.is_partial-2.ensures in
-    let few = level_few c.args.rows.now p.order c.join-level.ensures.1 in
+    let few = level_few c.args.levels.rows.now c.args.levels.order c.join-level.ensures.1 in
     let made = mark-whole _ few in
     (made ∙ joined-whole _ _ _ p.first p.second _ level_is (sym either ∙ c.if-is_partial.false), known_at _ _ made (omega arith) c.join-level.ensures.1)

@@ -23,4 +23,4 @@ meet-requires c =
     (p.context-known, rw c.level_of.ensures.0 (known_is _ _ p.mark).1)
 
 pub partial_at-requires : goal.partial_at-requires
-partial_at-requires c = omega (arith, c.meet.ensures.1, (facts c.args.rows.now c.requires.order).few)
+partial_at-requires c = omega (arith, c.meet.ensures.1, (facts c.args.levels.rows.now c.args.levels.order).few)

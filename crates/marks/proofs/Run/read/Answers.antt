@@ -3,7 +3,7 @@ use native.Mathlib.Omega.{arith}
 use mathlib.Core.Path.{refl}
 use Rattle.marks.specs.Inside.Meanings.{meaning}
 use Rattle.store.proofs.Marks.{known_is}
-use Rattle.marks.proofs.read.Goals as goal
+use Rattle.marks.proofs.Run.read.Goals as goal
 
 pub returns : goal.returns
 unfolding meaning

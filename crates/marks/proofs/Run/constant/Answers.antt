@@ -1,8 +1,8 @@
 -- The run names it.
 use Rattle.marks.specs.Inside.Meanings.{meaning}
 use Rattle.marks.proofs.LevelMarks.{constant-level}
-use Rattle.marks.proofs.constant.Goals as goal
+use Rattle.marks.proofs.Run.constant.Goals as goal
 
 pub returns : goal.returns
 unfolding meaning
-returns c = rw c.constant_mark.ensures (constant-level _ _ _ c.requires)
+returns c = constant-level _ c.requires

@@ -2,7 +2,7 @@
 use borrow.Author.Rules.{rules}
 use native.Mathlib.Omega.{arith}
 use Rattle.marks.proofs.Results.{bits_few, value_back}
-use Rattle.marks.proofs.words.word.Goals as goal
+use Rattle.marks.proofs.words.Word.new.Goals as goal
 
 pub returns : goal.returns
 returns c =
