@@ -1,4 +1,4 @@
-// The checks of each call, in the order of document 01's table: what the list of `specs/Calls` tells.
+// The checks of each call, in the order of document 01's table: what the list of `specs/Calls` tells. What C gives comes apart, and mode as its number.
 ghost use Rattle.std.specs.Prelude.{◌++◌, IfOk};
 ghost use Rattle.basis.specs.Checks.{Judges};
 ghost use Rattle.store.specs.declared.Mode.TheVariants.{Permissive};

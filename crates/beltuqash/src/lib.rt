@@ -1,5 +1,5 @@
 // The calls, on byte slices and numbers. `specs/Calls` says what each call does; lent memory that a call only reads stays as it was. `beltuqash_c` has
-// them for C.
+// them for C. Sheet, store, mode and fuel come apart, as C gives them.
 #![tactic(auto)]
 
 pub mod checks;

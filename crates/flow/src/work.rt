@@ -1,4 +1,4 @@
-// A work store: a cell for each field. It is filled from a store, and written out as one.
+// A work store: a cell for each field. It is filled from a store, and written out as one. It has room for 64, and how many count is beside it: no heap.
 ghost use Rattle.std.specs.Prelude.{◌≡◌, ℕ, ◌≤◌, ◌<◌, length, get_or, replicate};
 ghost use Rattle.store.specs.Marks.{mark_of};
 ghost use Rattle.store.specs.Stores.{store_length, store_over};

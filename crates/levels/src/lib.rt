@@ -103,7 +103,8 @@ fn right(rows: &[u8]) -> bool
         && with_row(rows, full(n)).is_some()
 }
 
-// Whether level i makes a right pair with each level.
+// Whether level i makes a right pair with each level. From here on rows need not be right, so they are no `Levels`, and each function asks for its own
+// levels alone.
 fn level_right(rows: &[u8], i: usize) -> bool
     requires { (i < count rows.now) × (count rows.now ≤ 16) }
     ensures { result ≡ level_right rows.now i }

@@ -22,6 +22,7 @@ struct Trial<'a> {
     rest: &'a [u8],
 }
 
+// What is left of the input is the loop's own: an iterator of trials would be a struct for one `for`.
 fn all_trials<W: Write>(output: &mut W, input: &[u8]) -> io::Result<()> {
     let mut rest = input;
     while let Some(trial) = next_trial(rest) {
