@@ -2,6 +2,6 @@
 -- written, and of checks in order.
 pub mod Numbering
 pub mod Tests
-pub mod Lists
+pub mod Iterators
 pub mod Filling
 pub mod Checks

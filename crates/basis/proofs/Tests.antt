@@ -14,11 +14,11 @@ both false b h = absurd (true≢false (sym h))
 pub and_of_lem : {a b : Bool} → a ≡ true → b ≡ true → (a && b) ≡ true
 and_of_lem h k = rw (h, k)
 
-pub apply : (a b : Bool) → (a ⇒ b) ≡ true → a ≡ true → b ≡ true
+apply : (a b : Bool) → (a ⇒ b) ≡ true → a ≡ true → b ≡ true
 apply true b h k = h
 apply false b h k = absurd (true≢false (sym k))
 
-pub implies_of : (a b : Bool) → (a ≡ true → b ≡ true) → (a ⇒ b) ≡ true
+implies_of : (a b : Bool) → (a ≡ true → b ≡ true) → (a ⇒ b) ≡ true
 implies_of true b f = f refl
 implies_of false b f = refl
 
@@ -104,10 +104,6 @@ module _ (P : ℕ → Bool) where
   pub all_more : (i : ℕ) → all i P ≡ true → P i ≡ true → all (i + 1) P ≡ true
   all_more i below here = all_suc i ∙ and_of_lem below here
 
-  -- a loop that passed i of n numbers and is not below n passed all
-  pub all_done : (n i : ℕ) → n ≤ i → all i P ≡ true → all n P ≡ true
-  all_done n i h e = all_of n P (λ j l. all-at i P e j (omega arith))
-
   -- one that fails is enough
   pub all-fails : (n i : ℕ) → i < n → P i ≡ false → all n P ≡ false
   all-fails n i h e = is_false (all n P) (λ t. true≢false (sym (all-at n P t i h) ∙ e))
@@ -132,16 +128,6 @@ all_both n P Q =
 abbrev pub None : ℕ → (ℕ → Bool) → Type 0
 None n P = (i : ℕ) → i < n → P i ≡ false
 
-pub none-at-first : (P : ℕ → Bool) → None 0 P
-none-at-first P i h = absurd (omega arith)
-
-pub none_more : (n : ℕ) (P : ℕ → Bool) → None n P → P n ≡ false → None (n + 1) P
-none_more n P below here i h = go (ℕ_discrete i n)
-  where
-    go : Dec (i ≡ n) → P i ≡ false
-    go (yes e) = rw e here
-    go (no ne) = below i (omega arith)
-
 -- the one that passes after none did is the first
 pub first-is : (n : ℕ) (P : ℕ → Bool) (i : ℕ) → i < n → None i P → P i ≡ true → first n P ≡ i
 unfolding first
@@ -154,6 +140,16 @@ pub first-none : (n : ℕ) (P : ℕ → Bool) → None n P → first n P ≡ n
 unfolding first
 first-none zero P none = refl
 first-none (suc n) P none = rw (none zero (omega arith), first) (ap suc (first-none n (λ i. P (suc i)) (λ i h. none (suc i) (omega arith))))
+
+-- the first passes, if it is below n
+pub first-at : (n : ℕ) (P : ℕ → Bool) (i : ℕ) → first n P ≡ i → i < n → P i ≡ true
+unfolding first
+first-at zero P i e h = absurd (omega arith)
+first-at (suc n) P zero e h = split (P zero) (λ t. t) (λ f. let more : suc (first n (λ j. P (suc j))) ≡ zero = rw (f, first) at e in absurd (omega arith))
+first-at (suc n) P (suc i) e h =
+    split (P zero)
+    (λ t. let none : zero ≡ suc i = rw (t, first) at e in absurd (omega arith))
+    (λ f. let more : suc (first n (λ j. P (suc j))) ≡ suc i = rw (f, first) at e in first-at n (λ j. P (suc j)) i (omega arith) (omega arith))
 
 pub first-most : (n : ℕ) (P : ℕ → Bool) → first n P ≤ n
 unfolding first

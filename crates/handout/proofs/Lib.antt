@@ -1,5 +1,4 @@
 -- What a right request has, why answers are alike, and what an answer shows.
 pub mod Requesting
-pub mod Searching
 pub mod Alike
 pub mod Answering

@@ -7,6 +7,5 @@ pub mod Laws
 pub mod Order
 mod Climbing
 mod Judging
-mod Ranges
 mod Rows
 mod Sets

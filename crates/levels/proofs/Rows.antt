@@ -3,14 +3,15 @@
 use Prim.Native.Nat.{ℕ, ◌-◌, ◌^◌, ◌<◌, ◌≤◌}
 use native.Mathlib.Omega.{arith}
 use mathlib.Core.Path.{◌≡◌, ap, sym, ◌∙◌}
-use mathlib.Core.Logic.{◌≢◌}
-use mathlib.Core.Bool.{true, ◌&&◌}
+use mathlib.Core.Bool.{true, ◌&&◌, true≢false}
 use mathlib.Core.List.{List}
 use borrow.Author.Tests.{eqb-true, eq-eqb}
 use lib.Bits.{and_lt}
+use lib.Dec.{eqb}
 use lib.Pow.{ones_lt}
 use Rattle.std.specs.Prelude.{Option, Some, None, MatchOption, is_some}
-use Rattle.basis.proofs.Tests.{both, and_of_lem, is_false, which-at, some_of, iff}
+use Rattle.basis.specs.Tests.{first}
+use Rattle.basis.proofs.Tests.{both, and_of_lem, is_false, which-at, some_of, iff, none_first, first-at}
 use Rattle.levels.specs.Levels.{bit, count, row_at, below, right, join_of, lowest_of}
 use Rattle.levels.specs.Inside.Judging.{above_both, is_row, WithRow}
 use Rattle.levels.proofs.Sets.{bit_and_lem, bit_ext, bit_full}
@@ -38,11 +39,10 @@ module _ (s : List ℕ) where
 
   -- what a search of the numbers below the count found
   pub found_row : (row : ℕ) (r : Option ℕ)
-      → MatchOption r ((k : ℕ) → 0 ≤ k → k < count s → row_at s k ≢ row)
-      (λ k. (0 ≤ k) × (k < count s) × (row_at s k ≡ row) × ((j : ℕ) → 0 ≤ j → j < k → row_at s j ≢ row))
+      → let at = first (count s) (λ k. eqb (row_at s k) row) in MatchOption r (at ≡ count s) (λ k. (at ≡ k) × (k < count s))
       → WithRow s row r
-  found_row row None h = λ k. h k (omega arith)
-  found_row row (Some k) h = (h.1, h.2)
+  found_row row None h = λ k d e. true≢false (sym (eq-eqb _ _ e) ∙ none_first _ _ h k d)
+  found_row row (Some k) h = (h.1, eqb-true _ _ (first-at _ _ k h.0 h.1))
 
   pub is_some_row : (row : ℕ) (r : Option ℕ) → WithRow s row r → is_some r ≡ is_row s row
   is_some_row row None w = sym (is_false _ (λ h. let (k, d, e) = row_at_lem row h in w k d e))

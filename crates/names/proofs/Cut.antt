@@ -9,11 +9,12 @@ use lib.Dec.{eqb}
 use lib.ListN.{length, get_or, take, drop}
 use Rattle.std.proofs.lemmas.List.{get_or-take, get_or-drop, length-take-le, length-drop, drop-drop}
 use Rattle.std.proofs.lemmas.List.FromFn.{length-enumerate_from, get_or-enumerate_from}
-use Rattle.std.specs.List.{list_all, list_any, enumerate_from}
+use Rattle.std.specs.List.{list_any, enumerate_from}
 use Rattle.std.specs.Cmp.Lexicographic.{pointwise}
 use Rattle.std.specs.Simd.{first_chunks}
 use Rattle.basis.proofs.Tests.{all_same}
-use Rattle.basis.proofs.Lists.{list_all_lem, list_any_lem, pointwise_lem}
+use Rattle.basis.specs.Tests.{all}
+use Rattle.basis.proofs.Iterators.{list_any_lem, pointwise_lem}
 use Rattle.names.specs.Names.{NameIn, is_letter, follows_at, good_name, same_name, new_name, names_right}
 
 -- name i
@@ -63,14 +64,14 @@ new_is s n i few most =
 abbrev pub is_right : List (List ℕ) → ℕ × List ℕ → Bool
 is_right names p = good_name p.1 0 && not (list_any (λ other. pointwise eqb other p.1) (take p.0 names))
 
-pub names_lem : (s : List ℕ) → let names = first_chunks 8 (length s / 8) s in list_all (is_right names) (enumerate_from 0 names) ≡ names_right s
+pub names_lem : (s : List ℕ) → let names = first_chunks 8 (length s / 8) s in
+    all (length (enumerate_from 0 names)) (λ i. is_right names (get_or (enumerate_from 0 names) i (0, []))) ≡ names_right s
 unfolding names_right
 names_lem s =
     let n = length s / 8 in
     let names = first_chunks 8 n s in
     let count : length (enumerate_from 0 names) ≡ n = length-enumerate_from 0 names ∙ length-first_chunks 8 n s in
-    list_all_lem (is_right names) (enumerate_from 0 names) (0, [])
-    ∙ rw count (all_same n _ _ (λ i l.
+    rw count (all_same n _ _ (λ i l.
     let here = get_or-enumerate_from 0 names i (0, []) (omega (arith, length-first_chunks 8 n s)) in
     let at : get_or (enumerate_from 0 names) i (0, []) ≡ (i, name_in s i) = here ∙ ap₂ (λ (k : ℕ) (x : List ℕ). (k, x)) (zero-add i) (name_at s n i l) in
     rw at (ap₂ (λ (a b : Bool). a && b) (good_is s i) (new_is s n i l (omega arith)))))

@@ -6,11 +6,11 @@ use mathlib.Core.Bool.{true≢false}
 use Prim.Native.Nat.{◌<◌, ◌≤◌}
 use Rattle.basis.specs.Tests.{all}
 use Rattle.basis.proofs.Tests.{is_false, all-at, all_of}
+use Rattle.basis.proofs.Iterators.{range-all}
 use Rattle.levels.specs.Levels.{count, right}
 use Rattle.levels.specs.Inside.Judging.{level_right}
 use Rattle.levels.proofs.Facts.{facts}
 use Rattle.levels.proofs.Judging.{level-right, judged}
-use Rattle.levels.proofs.Ranges.{range-all}
 use Rattle.levels.proofs.Rows.{is_some_row}
 use Rattle.levels.proofs.right.Goals as goal
 use Rattle.levels.proofs.right.Goals.{then-contains, else-contains}
@@ -21,7 +21,7 @@ returns-then-all c =
     elim c.if-contains.branch [
       | then-contains w ↦
           let limits : (0 < count s) × (count s ≤ 16) = search (rules, tests) in
-          let asked : w.all.result ≡ all (count s) (level_right s) = range-all _ _ _ refl w.all.ensures.ran (λ j b q h. search (rules, tests)) in
+          let asked : w.all.result ≡ all (count s) (level_right s) = range-all _ _ _ w.all.ensures.ran (λ i b q h. search (rules, tests)) in
           c.is_some.ensures ∙ is_some_row s _ _ c.with_row.ensures
           ∙ rw c.full.ensures (judged s limits.0 limits.1 (all-at _ _ (sym asked ∙ sym w.value-is ∙ c.if-all.true)))
       | else-contains w ↦ absurd (true≢false (sym c.if-all.true ∙ w.value-is ∙ w.if-contains.false))
@@ -32,7 +32,7 @@ returns-else-all c =
     let s = c.args.rows.now in
     c.if-all.false ∙ sym (is_false (right s) (λ h. elim c.if-contains.branch [
       | then-contains w ↦
-          let asked : w.all.result ≡ all (count s) (level_right s) = range-all _ _ _ refl w.all.ensures.ran (λ j b q h. search (rules, tests)) in
+          let asked : w.all.result ≡ all (count s) (level_right s) = range-all _ _ _ w.all.ensures.ran (λ i b q h. search (rules, tests)) in
           true≢false (sym (all_of (count s) _ (level-right s h)) ∙ sym asked ∙ sym w.value-is ∙ c.if-all.false)
       | else-contains w ↦ let few = (facts s h).few in let some_level = (facts s h).up.some_level in search (rules, tests)
     ]))

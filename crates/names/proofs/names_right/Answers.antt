@@ -1,10 +1,12 @@
 -- By the test of each name, beside those before it.
 use mathlib.Core.Path.{◌∙◌}
+use mathlib.Core.List.{[]}
 use borrow.Author.Rules.{rules}
 use borrow.Author.Tests.{tests}
+use Rattle.std.specs.List.{enumerate_from}
 use Rattle.std.proofs.lemmas.Iterator.{YieldsList-from_slice}
 use Rattle.std.proofs.lemmas.Iterator.Consumers.{YieldsList-from_enumerate}
-use Rattle.std.proofs.lemmas.Iterator.Search.{all_from_yields_List}
+use Rattle.basis.proofs.Iterators.{list-all}
 use Rattle.names.proofs.Cut.{is_right, names_lem}
 use Rattle.names.proofs.names_right.Goals as goal
 
@@ -12,8 +14,8 @@ pub returns : goal.returns
 returns c =
     let names = c.as_chunks.result.0.now in
     let same =
-    all_from_yields_List (is_right names) _ _ c.all.result c.all.ensures.ran
-    (YieldsList-from_enumerate (YieldsList-from_slice names (cc)) c.enumerate.ensures.count)
+    list-all (is_right names) (enumerate_from 0 names) (0, []) c.all.result
+    (YieldsList-from_enumerate (YieldsList-from_slice names (cc)) c.enumerate.ensures.count) c.all.ensures.ran
     (λ x b q k. search (rules, tests))
     in
     rw c.as_chunks.ensures.front at same ∙ names_lem c.args.fields.now

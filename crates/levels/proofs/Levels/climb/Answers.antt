@@ -12,17 +12,16 @@ loop-k-preserved g c =
     let inside : c.loop-k.k < count c.args.self.rows.now = omega arith in
     let order = c.args.self.order in
     let so_far = c.loop-k.invariant in
-    let above = sym c.at_or_below.ensures in
     elim c.if-at_or_below.branch [
       | then-at_or_below+then-passes w ↦ rw w.found-is (record {
         level = inside;
-        under = λ m t. goes_up _ order _ _ m t _ _ (so_far.under m t) inside (above ∙ w.if-at_or_below.true) (rw w.if-passes.true at w.passes.ensures);
+        under = λ m t. goes_up _ order _ _ m t _ _ (so_far.under m t) inside (rw c.at_or_below.ensures at w.if-at_or_below.true) (rw w.if-passes.true at w.passes.ensures);
       })
       | else-at_or_below w ↦ rw w.found-is (record {
         level = so_far.level;
         under = λ m t. elim w.else-at_or_below.branch [
           | else-at_or_below-via-then-at_or_below+else-passes v ↦ stays-unpassed _ order _ _ m t _ _ (so_far.under m t) (rw v.if-passes.false at v.passes.ensures)
-          | else-at_or_below-via-else-at_or_below v ↦ stays-beside _ order _ _ m t _ _ (so_far.under m t) (above ∙ v.if-at_or_below.false)
+          | else-at_or_below-via-else-at_or_below v ↦ stays-beside _ order _ _ m t _ _ (so_far.under m t) (rw c.at_or_below.ensures at v.if-at_or_below.false)
         ];
       })
     ]
