@@ -63,7 +63,7 @@ fn single(run: &Run, work: &mut [Cell; 64], n: usize, context: u32, left: u32) -
     Word::done(left)
 }
 
-// The command at node `first`, in the context `start`. Answers the fuel left, or a stop.
+/// The command at node `first`, in the context `start`. Answers the fuel left, or a stop.
 pub fn execute(run: &Run, work: &mut [Cell; 64], first: usize, start: u32, fuel: u32) -> Word
     requires { CmdIn run.now work.old first start }
     ensures { Ran run.now work.old first start fuel work.new result }

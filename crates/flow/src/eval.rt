@@ -41,7 +41,7 @@ fn leaf(run: &Run, work: &[Cell; 64], n: usize) -> Word
     Word::new(constant_at(run.parts.constants, a), run.constant())
 }
 
-// The expression at node n. An operator on two leaves, as most are, is answered without a frame.
+/// The expression at node n. An operator on two leaves, as most are, is answered without a frame.
 #[cycle(eval_expression)]
 pub fn expression(run: &Run, work: &[Cell; 64], n: usize) -> Word
     requires { ExpIn run.now work.now n }

@@ -8,7 +8,7 @@ ghost use Rattle.flow.specs.Inside.Tasks.{Fetched};
 use marks::Cell;
 use store::{mark_at, put_field, value_at};
 
-// Fills a work store with the fields of a store.
+/// Fills a work store with the fields of a store.
 pub fn fetch(store: &[u8], work: &mut [Cell; 64], fields: usize)
     requires { (fields ≤ 64) × (length store.now ≡ store_length fields) × (work.old ≡ replicate 64 blank) }
     ensures { Fetched store.now work.new }
@@ -21,7 +21,7 @@ pub fn fetch(store: &[u8], work: &mut [Cell; 64], fields: usize)
     }
 }
 
-// Writes so many fields of a work store to the front of `out`, as a store.
+/// Writes so many fields of a work store to the front of `out`, as a store.
 pub fn deliver(work: &[Cell; 64], out: &mut [u8], fields: usize)
     requires { (fields ≤ 64) × (store_length fields ≤ length out.old) × ((i : ℕ) → i < fields → (get_or work.now i blank).mark < 256) }
     ensures { out.new ≡ store_over (work_of mark_of work.now) fields out.old }
