@@ -36,6 +36,10 @@ module _ (s : List ℕ) (fields constants : ℕ) where
     unfolding node_verdict ◌then◌
     told_unknown e = simp e
 
+    pub told_kind : 9 < kind_at s n → Err (Node Unknown n) ≡ node_verdict s fields constants n
+    unfolding known
+    told_kind h = told_unknown (simp (lt-leb (kind_at s n) 9 h))
+
     module _ (kn : known (kind_at s n) (op_at s n) ≡ true) where
       pub told_operator : operator_zero (kind_at s n) (op_at s n) ≡ false → Err (Node Unused n) ≡ node_verdict s fields constants n
       unfolding node_verdict ◌then◌

@@ -1,16 +1,15 @@
 -- A node taken by its kind: it passes if its operator and slots are free of faults, and its children are counted.
-use Prim.Native.Nat.{ℕ, ◌≤◌}
-use mathlib.Core.Path.{◌≡◌, refl, sym, ap, ◌∙◌}
-use mathlib.Core.Bool.{Bool, true, false, cond, ◌&&◌, and-true, and_assoc}
+use Prim.Native.Nat.{ℕ}
+use mathlib.Core.Path.{◌≡◌, refl, sym, ◌∙◌}
+use mathlib.Core.Bool.{Bool, true, cond, ◌&&◌, and-true, and_assoc}
 use mathlib.Core.List.{List}
-use borrow.Author.Tests.{lt-leb}
 use lib.Dec.{leb}
 use Rattle.basis.proofs.Tests.{both, all_three}
 use Rattle.std.specs.Prelude.{is_ok}
 use Rattle.nodes.specs.Nodes.{kind_at, op_at, slot_at, held_in, is_child, known, operator_zero, node_verdict}
 use Rattle.nodes.specs.Inside.Counting.{counted, counted_slots}
 use Rattle.nodes.specs.declared.Held.{Held}
-use Rattle.nodes.proofs.Judged.{told_unknown, free, passes-node}
+use Rattle.nodes.proofs.Judged.{free, passes-node}
 
 -- kind 2 has an operator
 pub an_operator : (op : ℕ) → leb op 9 ≡ (known 2 op && operator_zero 2 op)
@@ -30,10 +29,6 @@ pub record Read (s : List ℕ) (n kind op a b c : ℕ) : Type 0 where
   pub c_is : c ≡ slot_at s n 2
 
 module _ (s : List ℕ) (fields constants n : ℕ) where
-  pub unknown : 10 ≤ kind_at s n → is_ok (node_verdict s fields constants n) ≡ false
-  unfolding known
-  unknown h = ap is_ok (sym (told_unknown s fields constants n (simp (lt-leb (kind_at s n) 9 h))))
-
   -- r tells whether w may stand in a slot; if it may, and is a child there, it is counted
   abbrev Taken : Held → ℕ → Bool → List ℕ → List ℕ → Type 0
   Taken held w r used after = (r ≡ free s fields constants n held w) × (r ≡ true → after ≡ cond (is_child held) (counted w used) used)

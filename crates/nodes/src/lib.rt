@@ -1,14 +1,16 @@
 // The nodes: what stands in their slots, and what is wrong with them.
 #![tactic(auto)]
 
+pub mod kinds;
 pub mod uses;
 
-ghost use Rattle.std.specs.Prelude.{◌≡◌, true, ℕ, ◌≤◌, ◌<◌, length, get_or};
+ghost use Rattle.std.specs.Prelude.{◌≡◌, true, ℕ, ◌≤◌, ◌<◌, length, get_or, leb};
 ghost use Rattle.nodes.specs.Inside.Rows.{row_of};
 ghost use Rattle.nodes.specs.Nodes.{In, node_count, kind_at, op_at, slot_at, held_in, is_child, known, operator_zero, zero_in, range_right, of_sort, sort_right, slot_right, slots_right, node_verdict};
 ghost use Rattle.nodes.specs.Inside.Counting.{TakesChild, TakesNode, Judges};
 
 use basis::word;
+use kinds::Kind;
 use sections::verdict::{Fault, SheetError};
 use uses::count_use;
 
@@ -46,39 +48,26 @@ pub fn slot(nodes: &[u8], n: usize, k: usize) -> usize
     word(nodes, n * 8 + 2 + k * 2) as usize
 }
 
-// What the slots c, b, a of a kind hold, an octal digit each: 1 a constant, 2 a field, 3 an expression, 4 a command.
-// No table of `Held`: with one, load took twice as long.
-#[tactic(auto, using(crate::proofs::Slots::row_past), unfolding(crate::specs::Inside::Rows::row_of))]
-fn row_of(kind: u8) -> u32
-    ensures { result ≡ row_of kind }
+/// Whether node n is an expression; a byte that is no kind's number makes none.
+pub fn is_expression(nodes: &[u8], n: usize) -> bool
+    requires { In nodes.now n }
+    ensures { result ≡ leb (kind_at nodes.now n) 4 }
 {
-    match kind {
-        0 => 0o001,
-        1 => 0o002,
-        2 => 0o033,
-        3 => 0o003,
-        4 => 0o003,
-        5 => 0o000,
-        6 => 0o032,
-        7 => 0o044,
-        8 => 0o443,
-        9 => 0o043,
-        _ => 0,
+    match Kind::try_from(kind_of(nodes, n)) {
+        Ok(kind) => kind.is_expression(),
+        Err(_) => false,
     }
 }
 
 /// What slot k of a kind holds.
+#[tactic(auto, using(crate::proofs::Slots::held_past))]
 pub fn held_in(kind: u8, k: usize) -> Held
     requires { k < 3 }
     ensures { result ≡ held_in kind k }
 {
-    let digit = (row_of(kind) >> (k * 3)) % 8;
-    match digit {
-        1 => Held::Constant,
-        2 => Held::Field,
-        3 => Held::Expression,
-        4 => Held::Command,
-        _ => Held::Nothing,
+    match Kind::try_from(kind) {
+        Ok(kind) => kind.holds(k),
+        Err(_) => Held::Nothing,
     }
 }
 
@@ -86,21 +75,6 @@ pub fn is_child(held: Held) -> bool
     ensures { result ≡ is_child held }
 {
     matches!(held, Held::Expression | Held::Command)
-}
-
-#[tactic(auto, unfolding(crate::specs::Nodes::known))]
-fn known_kind(kind: u8, op: u8) -> bool
-    ensures { result ≡ known kind op }
-{
-    (kind <= 9) & ((kind != 2) | (op <= 9))
-}
-
-// Whether the operator byte is 0 in a kind without one.
-#[tactic(auto, unfolding(crate::specs::Nodes::operator_zero))]
-fn operator_zero(kind: u8, op: u8) -> bool
-    ensures { result ≡ operator_zero kind op }
-{
-    (kind == 2) | (op == 0)
 }
 
 // Whether a slot that holds nothing is 0.
@@ -134,13 +108,14 @@ impl Limits {
     }
 }
 
-// Whether a child of this kind is of the right sort: kinds 0 to 4 are expressions, the others commands.
-fn of_sort(held: Held, kind: u8) -> bool
-    ensures { result ≡ of_sort held kind }
+// Whether node w is of the sort that a slot holds.
+fn of_sort(nodes: &[u8], held: Held, w: usize) -> bool
+    requires { In nodes.now w }
+    ensures { result ≡ of_sort held (kind_at nodes.now w) }
 {
     match held {
-        Held::Expression => kind <= 4,
-        Held::Command => 4 < kind,
+        Held::Expression => is_expression(nodes, w),
+        Held::Command => !is_expression(nodes, w),
         _ => true,
     }
 }
@@ -150,10 +125,7 @@ fn sort_right(nodes: &[u8], n: usize, held: Held, w: usize) -> bool
     requires { In nodes.now n }
     ensures { result ≡ sort_right nodes.now n held w }
 {
-    if n <= w {
-        return true;
-    }
-    of_sort(held, kind_of(nodes, w))
+    n <= w || of_sort(nodes, held, w)
 }
 
 // Whether a slot of node n is free of a fault.
@@ -186,17 +158,19 @@ fn slots_right(nodes: &[u8], limits: Limits, n: usize, fault: Fault) -> bool
 }
 
 // Judges node n.
-#[tactic(auto, using(crate::proofs::Judged::told_unknown, crate::proofs::Judged::told_operator, crate::proofs::Judged::told_unused, crate::proofs::Judged::told_range, crate::proofs::Judged::told_sort, crate::proofs::Judged::told_none))]
+#[tactic(auto, using(crate::proofs::Judged::told_kind, crate::proofs::Judged::told_unknown, crate::proofs::Judged::told_operator, crate::proofs::Judged::told_unused, crate::proofs::Judged::told_range, crate::proofs::Judged::told_sort, crate::proofs::Judged::told_none))]
 fn judge_node(nodes: &[u8], limits: Limits, n: usize) -> Result<(), SheetError>
     requires { In nodes.now n }
     ensures { result ≡ node_verdict nodes.now limits.fields limits.constants n }
 {
-    let kind = kind_of(nodes, n);
+    let Ok(kind) = Kind::try_from(kind_of(nodes, n)) else {
+        return Err(SheetError::Node(Fault::Unknown, n));
+    };
     let op = op_of(nodes, n);
-    if !known_kind(kind, op) {
+    if !kind.knows(op) {
         return Err(SheetError::Node(Fault::Unknown, n));
     }
-    if !(operator_zero(kind, op) && slots_right(nodes, limits, n, Fault::Unused)) {
+    if !(kind.operator_zero(op) && slots_right(nodes, limits, n, Fault::Unused)) {
         return Err(SheetError::Node(Fault::Unused, n));
     }
     if !slots_right(nodes, limits, n, Fault::Range) {
@@ -217,7 +191,7 @@ fn take_child(nodes: &[u8], n: usize, w: usize, held: Held, used: &mut [u8]) -> 
         return false;
     }
     count_use(used, w);
-    of_sort(held, kind_of(nodes, w))
+    of_sort(nodes, held, w)
 }
 
 // Whether node n is free of every fault, by its kind; its children are counted.
@@ -226,38 +200,45 @@ fn take_node(nodes: &[u8], limits: Limits, n: usize, used: &mut [u8]) -> bool
     requires { In nodes.now n × (n ≤ length used.old) }
     ensures { TakesNode nodes.now limits.fields limits.constants n used.old used.new result }
 {
-    let kind = kind_of(nodes, n);
+    let Ok(kind) = Kind::try_from(kind_of(nodes, n)) else {
+        return false;
+    };
     let op = op_of(nodes, n);
     let a = slot(nodes, n, 0);
     let b = slot(nodes, n, 1);
     let c = slot(nodes, n, 2);
     match kind {
-        0 => (op == 0) & (a < limits.constants) & (b == 0) & (c == 0),
-        1 => (op == 0) & (a < limits.fields) & (b == 0) & (c == 0),
-        2 => (op <= 9)
+        Kind::Constant => (op == 0) & (a < limits.constants) & (b == 0) & (c == 0),
+        Kind::Field => (op == 0) & (a < limits.fields) & (b == 0) & (c == 0),
+        Kind::Operator => (op <= 9)
             & take_child(nodes, n, a, Held::Expression, used)
             & take_child(nodes, n, b, Held::Expression, used)
             & (c == 0),
-        3 => (op == 0) & take_child(nodes, n, a, Held::Expression, used) & (b == 0) & (c == 0),
-        4 => (op == 0) & take_child(nodes, n, a, Held::Expression, used) & (b == 0) & (c == 0),
-        5 => (op == 0) & (a == 0) & (b == 0) & (c == 0),
-        6 => (op == 0)
+        Kind::Not => (op == 0)
+            & take_child(nodes, n, a, Held::Expression, used)
+            & (b == 0)
+            & (c == 0),
+        Kind::Seal => (op == 0)
+            & take_child(nodes, n, a, Held::Expression, used)
+            & (b == 0)
+            & (c == 0),
+        Kind::Skip => (op == 0) & (a == 0) & (b == 0) & (c == 0),
+        Kind::Assign => (op == 0)
             & (a < limits.fields)
             & take_child(nodes, n, b, Held::Expression, used)
             & (c == 0),
-        7 => (op == 0)
+        Kind::Sequence => (op == 0)
             & take_child(nodes, n, a, Held::Command, used)
             & take_child(nodes, n, b, Held::Command, used)
             & (c == 0),
-        8 => (op == 0)
+        Kind::If => (op == 0)
             & take_child(nodes, n, a, Held::Expression, used)
             & take_child(nodes, n, b, Held::Command, used)
             & take_child(nodes, n, c, Held::Command, used),
-        9 => (op == 0)
+        Kind::While => (op == 0)
             & take_child(nodes, n, a, Held::Expression, used)
             & take_child(nodes, n, b, Held::Command, used)
             & (c == 0),
-        _ => false,
     }
 }
 

@@ -33,7 +33,7 @@ pub fn load(sheet: &[u8]) -> Result<(), SheetError>
     if !uses::all_once(&used, last) {
         return Err(SheetError::Uses);
     }
-    if nodes::kind_of(parts.nodes, last) <= 4 {
+    if nodes::is_expression(parts.nodes, last) {
         return Err(SheetError::Uses);
     }
     if !depth::fits(&parts.nodes, last, 64) {

@@ -1,7 +1,7 @@
 -- Each return has the checks that lead to it, and each check speaks of the sheet's own section.
 use Rattle.std.proofs.Common.{ℕ, ◌≡◌, ◌≤◌, ◌<◌, length, true, not, refl, sym, ap, ◌∙◌, arith}
 use Rattle.std.proofs.lemmas.Result.{err_from_is_err_and}
-use borrow.Author.Tests.{le-ltb, lt-ltb}
+use borrow.Author.Tests.{le-ltb, lt-ltb, leb-true, leb-false}
 use lib.Dec.{leb}
 use Rattle.sections.specs.Sections.{constants_of, nodes_of}
 use Rattle.nodes.specs.Nodes.{In, node_count, kind_at}
@@ -13,7 +13,7 @@ use Rattle.sheet.proofs.Depths.{cmd_depth_lem}
 use Rattle.nodes.proofs.Counted.{all-counted, zeros}
 use Rattle.sheet.proofs.Loading.{nodes-length, NodesPass, layout_told, levels-told, names-told, nodes-told, unused_told, expression_told, depth-told, none_told, formed}
 use Rattle.sheet.proofs.load.Goals as goal
-use Rattle.sheet.proofs.load.Goals.{In_ok-judge_nodes, Else-not-all_once, Else-kind_of-le4}
+use Rattle.sheet.proofs.load.Goals.{In_ok-judge_nodes, Else-not-all_once, Else-is_expression}
 
 -- the checks up to the nodes have passed
 passed : (c : In_ok-judge_nodes) → NodesPass c.args.sheet.now
@@ -35,11 +35,11 @@ last_in c =
 once : (c : Else-not-all_once) → used_once (nodes_of c.args.sheet.now) ≡ true
 once c = sym (c.if-not-all_once.ensures ∙ all-counted (c.in_ok-judge_nodes.ensures.1 refl) ∙ ap used_once c.of-parts.ensures.nodes)
 
-command : (c : Else-kind_of-le4) → 4 < kind_at (nodes_of c.args.sheet.now) (last_of (nodes_of c.args.sheet.now))
-command c = rw (rw c.of-parts.ensures.nodes at c.kind_of.ensures) at c.if-kind_of-le4.false
+command : (c : Else-is_expression) → 4 < kind_at (nodes_of c.args.sheet.now) (last_of (nodes_of c.args.sheet.now))
+command c = leb-false _ 4 (sym (rw c.of-parts.ensures.nodes at c.is_expression.ensures) ∙ c.if-is_expression.false)
 
 -- how deep the last node's tree is
-depth_is : (c : Else-kind_of-le4) → leb (depth_at (constants_of c.args.sheet.now) (nodes_of c.args.sheet.now) (last_of (nodes_of c.args.sheet.now))) 64 ≡ leb (cmd_depth (program_of c.args.sheet.now)) 64
+depth_is : (c : Else-is_expression) → leb (depth_at (constants_of c.args.sheet.now) (nodes_of c.args.sheet.now) (last_of (nodes_of c.args.sheet.now))) 64 ≡ leb (cmd_depth (program_of c.args.sheet.now)) 64
 depth_is c = ap (λ (depth : ℕ). leb depth 64) (cmd_depth_lem _ _ _ (command c))
 
 pub returns-in_err-judge_sections : goal.returns-in_err-judge_sections
@@ -77,13 +77,13 @@ returns-then-not-all_once c =
     let once = sym (c.if-not-all_once.ensures ∙ all-counted (c.in_ok-judge_nodes.ensures.1 refl) ∙ ap used_once c.of-parts.ensures.nodes) in
     unused_told _ (passed (goal.at.returns-then-not-all_once c).In_ok-judge_nodes) once
 
-pub kind_of-requires : goal.kind_of-requires
-kind_of-requires c = (last_in (goal.at.kind_of-requires c).In_ok-judge_nodes).1
+pub is_expression-requires : goal.is_expression-requires
+is_expression-requires c = (last_in (goal.at.is_expression-requires c).In_ok-judge_nodes).1
 
-pub returns-then-kind_of-le4 : goal.returns-then-kind_of-le4
-returns-then-kind_of-le4 c =
-    let at = goal.at.returns-then-kind_of-le4 c in
-    expression_told _ (passed at.In_ok-judge_nodes) (once at.Else-not-all_once) (le-ltb 4 _ (rw (rw c.of-parts.ensures.nodes at c.kind_of.ensures) at c.if-kind_of-le4.true))
+pub returns-then-is_expression : goal.returns-then-is_expression
+returns-then-is_expression c =
+    let at = goal.at.returns-then-is_expression c in
+    expression_told _ (passed at.In_ok-judge_nodes) (once at.Else-not-all_once) (le-ltb 4 _ (leb-true _ 4 (sym (rw c.of-parts.ensures.nodes at c.is_expression.ensures) ∙ c.if-is_expression.true)))
 
 pub fits-requires : goal.fits-requires
 fits-requires c =
@@ -94,10 +94,10 @@ pub returns-then-not-fits : goal.returns-then-not-fits
 returns-then-not-fits c =
     let at = goal.at.returns-then-not-fits c in
     let depth = rw c.of-parts.ensures.nodes at (c.if-not-fits.ensures (constants_of c.args.sheet.now)) in
-    depth-told _ (passed at.In_ok-judge_nodes) (once at.Else-not-all_once) (lt-ltb 4 _ (command at.Else-kind_of-le4)) (sym (depth ∙ depth_is at.Else-kind_of-le4))
+    depth-told _ (passed at.In_ok-judge_nodes) (once at.Else-not-all_once) (lt-ltb 4 _ (command at.Else-is_expression)) (sym (depth ∙ depth_is at.Else-is_expression))
 
 pub returns : goal.returns
 returns c =
     let at = goal.at.returns c in
     let depth = rw c.of-parts.ensures.nodes at (c.if-not-fits.ensures (constants_of c.args.sheet.now)) in
-    none_told _ (passed at.In_ok-judge_nodes) (once at.Else-not-all_once) (lt-ltb 4 _ (command at.Else-kind_of-le4)) (sym (depth ∙ depth_is at.Else-kind_of-le4))
+    none_told _ (passed at.In_ok-judge_nodes) (once at.Else-not-all_once) (lt-ltb 4 _ (command at.Else-is_expression)) (sym (depth ∙ depth_is at.Else-is_expression))

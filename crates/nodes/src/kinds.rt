@@ -1,0 +1,111 @@
+// The kinds of a node, each with its number.
+ghost use Rattle.std.specs.Prelude.{◌≡◌, ◌<◌, leb};
+ghost use Rattle.nodes.specs.Nodes.{held_in, known, operator_zero};
+ghost use Rattle.nodes.specs.Kinds.{number_of_kind, HasKind};
+ghost use Rattle.nodes.specs.Inside.Rows.{row_of};
+
+use crate::Held;
+
+/// The kinds of a node, in the order of their numbers.
+#[derive(Clone, Copy, Debug, PartialEq, Eq)]
+pub enum Kind {
+    Constant,
+    Field,
+    Operator,
+    Not,
+    Seal,
+    Skip,
+    Assign,
+    Sequence,
+    If,
+    While,
+}
+
+/// A byte that is no kind's number.
+#[derive(Clone, Copy, Debug, PartialEq, Eq)]
+pub struct UnknownKind(pub u8);
+
+impl TryFrom<u8> for Kind {
+    type Error = UnknownKind;
+
+    ghost try_from_gives = { HasKind };
+
+    fn try_from(byte: u8) -> Result<Self, UnknownKind> {
+        Ok(match byte {
+            0 => Kind::Constant,
+            1 => Kind::Field,
+            2 => Kind::Operator,
+            3 => Kind::Not,
+            4 => Kind::Seal,
+            5 => Kind::Skip,
+            6 => Kind::Assign,
+            7 => Kind::Sequence,
+            8 => Kind::If,
+            9 => Kind::While,
+            _ => return Err(UnknownKind(byte)),
+        })
+    }
+}
+
+impl Kind {
+    /// Whether it is an expression; the others are commands.
+    pub fn is_expression(self) -> bool
+        ensures { result ≡ leb (number_of_kind self) 4 }
+    {
+        matches!(
+            self,
+            Kind::Constant | Kind::Field | Kind::Operator | Kind::Not | Kind::Seal
+        )
+    }
+
+    /// Whether it may have the operator byte: of operators 0 to 9 are known.
+    #[tactic(auto, unfolding(crate::specs::Nodes::known))]
+    pub(crate) fn knows(self, op: u8) -> bool
+        ensures { result ≡ known (number_of_kind self) op }
+    {
+        self != Kind::Operator || op <= 9
+    }
+
+    /// Whether the operator byte is 0 in a kind without one.
+    #[tactic(auto, unfolding(crate::specs::Nodes::operator_zero))]
+    pub(crate) fn operator_zero(self, op: u8) -> bool
+        ensures { result ≡ operator_zero (number_of_kind self) op }
+    {
+        self == Kind::Operator || op == 0
+    }
+
+    // What its slots c, b, a hold, an octal digit each: 1 a constant, 2 a field, 3 an expression, 4 a command.
+    // No table of `Held`: with one, load took twice as long.
+    #[tactic(auto, unfolding(crate::specs::Inside::Rows::row_of))]
+    fn row(self) -> u32
+        ensures { result ≡ row_of (number_of_kind self) }
+    {
+        match self {
+            Kind::Constant => 0o001,
+            Kind::Field => 0o002,
+            Kind::Operator => 0o033,
+            Kind::Not => 0o003,
+            Kind::Seal => 0o003,
+            Kind::Skip => 0o000,
+            Kind::Assign => 0o032,
+            Kind::Sequence => 0o044,
+            Kind::If => 0o443,
+            Kind::While => 0o043,
+        }
+    }
+
+    /// What its slot k holds.
+    pub fn holds(self, k: usize) -> Held
+        requires { k < 3 }
+        ensures { result ≡ held_in (number_of_kind self) k }
+    {
+        let digit = (self.row() >> (k * 3)) % 8;
+        match digit {
+            1 => Held::Constant,
+            2 => Held::Field,
+            3 => Held::Expression,
+            4 => Held::Command,
+            _ => Held::Nothing,
+        }
+    }
+}
