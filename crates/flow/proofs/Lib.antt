@@ -5,3 +5,4 @@ pub mod Ends
 pub mod Assigning
 pub mod Testing
 pub mod Running
+pub mod Numbered

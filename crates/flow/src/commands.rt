@@ -1,15 +1,16 @@
 // What a command does, by recursion on the node number; the last command of a sequence, the side that an if takes and a while's next round are
 // done in the same call. It answers a word and no `Result`, which was tried: 64 levels take 6,792 bytes of stack with it, and 4,736 with words.
-// Kinds are their numbers, as in `nodes`: below 7 are classes of them that an enum would have to list.
 ghost use Rattle.std.specs.Prelude.{◌≡◌, suc, ◌≤◌, ◌<◌};
 ghost use Rattle.nodes.specs.Nodes.{kind_at};
 ghost use Rattle.flow.specs.Inside.Tasks.{CmdIn, Assigned, Tested, Ran};
 
 use crate::eval::expression;
+use crate::kinds::{is_single, known_kind};
 use basis::numbers::Number;
 use marks::words::Word;
 use marks::{Cell, Run};
-use nodes::{kind_of, slot};
+use nodes::kinds::Kind;
+use nodes::slot;
 
 // Field a := expression b. Answers 0, or a stop.
 fn assign(run: &Run, work: &mut [Cell; 64], n: usize, context: u32) -> Word
@@ -53,7 +54,7 @@ fn single(run: &Run, work: &mut [Cell; 64], n: usize, context: u32, left: u32) -
     requires { CmdIn run.now work.old n context × (kind_at run.now.parts.nodes.now n < 7) }
     ensures { Ran run.now work.old n context (suc left) work.new result }
 {
-    if kind_of(run.parts.nodes, n) == 5 {
+    if known_kind(run.parts.nodes, n) == Kind::Skip {
         return Word::done(left);
     }
     let put = assign(run, work, n, context);
@@ -72,8 +73,8 @@ pub fn execute(run: &Run, work: &mut [Cell; 64], first: usize, start: u32, fuel:
     let mut context = start;
     let mut left = fuel;
     loop {
-        let kind = kind_of(run.parts.nodes, n);
-        if kind == 7 {
+        let kind = known_kind(run.parts.nodes, n);
+        if kind == Kind::Sequence {
             let done = execute(run, work, slot(run.parts.nodes, n, 0), context, left);
             if done.is_stop() {
                 return done;
@@ -85,7 +86,7 @@ pub fn execute(run: &Run, work: &mut [Cell; 64], first: usize, start: u32, fuel:
                 return Word::stop(Number::FuelSpent, n);
             }
             left -= 1;
-            if kind < 7 {
+            if is_single(kind) {
                 return single(run, work, n, context, left);
             }
             let got = test(run, work, n, context);
@@ -94,7 +95,7 @@ pub fn execute(run: &Run, work: &mut [Cell; 64], first: usize, start: u32, fuel:
             }
             context = got.mark();
             let holds = got.value().is_true();
-            if kind == 8 {
+            if kind == Kind::If {
                 n = slot(run.parts.nodes, n, 2 - holds as usize);
             } else if holds {
                 let round = execute(run, work, slot(run.parts.nodes, n, 1), context, left);

@@ -1,18 +1,20 @@
 // What an expression gives, by recursion on the node number. The run and the work store come behind a reference each, and the answer is a
 // word: a frame is a few registers. A constant or a field needs no call, an operator on two of them no frame: `eval` calls itself
-// below a not or a seal, so the compiler keeps it apart from `expression`. Kinds are their numbers, as in `nodes`: below 2 are the leaves. Run, work store and node stay
-// apart, a register each: a struct of them would lie in memory.
+// below a not or a seal, so the compiler keeps it apart from `expression`. Run, work store and node stay apart, a register each: a struct of
+// them would lie in memory.
 ghost use Rattle.std.specs.Prelude.{◌<◌};
 ghost use Rattle.nodes.specs.Nodes.{In, kind_at};
 ghost use Rattle.marks.specs.Inside.Words.{Place, mark_in, Goes};
 ghost use Rattle.marks.specs.Inside.Meanings.{meaning, Joins};
 ghost use Rattle.flow.specs.Inside.Tasks.{ExpIn, Evaluated, Operated};
 
+use crate::kinds::{is_leaf, known_kind};
 use basis::numbers::Number;
 use marks::parts::constant_at;
 use marks::words::Word;
 use marks::{Cell, Run};
-use nodes::{kind_of, op_of, slot};
+use nodes::kinds::Kind;
+use nodes::{op_of, slot};
 use value::{ArithmeticError, Operator};
 
 // The operator at node n, between the values in two words.
@@ -34,7 +36,7 @@ fn leaf(run: &Run, work: &[Cell; 64], n: usize) -> Word
 {
     let nodes = run.parts.nodes;
     let a = slot(nodes, n, 0);
-    if kind_of(nodes, n) == 1 {
+    if known_kind(nodes, n) == Kind::Field {
         let held = work[a];
         return Word::new(held.value, run.read(a, held.mark));
     }
@@ -48,12 +50,12 @@ pub fn expression(run: &Run, work: &[Cell; 64], n: usize) -> Word
     ensures { Evaluated run.now work.now n result }
 {
     let nodes = run.parts.nodes;
-    if kind_of(nodes, n) == 2 {
+    if known_kind(nodes, n) == Kind::Operator {
         let a = slot(nodes, n, 0);
-        if kind_of(nodes, a) < 2 {
+        if is_leaf(known_kind(nodes, a)) {
             let left = leaf(run, work, a);
             let b = slot(nodes, n, 1);
-            if kind_of(nodes, b) < 2 {
+            if is_leaf(known_kind(nodes, b)) {
                 let right = leaf(run, work, b);
                 return operate(run, left, n, right);
             }
@@ -69,10 +71,10 @@ fn eval(run: &Run, work: &[Cell; 64], n: usize) -> Word
     ensures { Evaluated run.now work.now n result }
 {
     let nodes = run.parts.nodes;
-    let kind = kind_of(nodes, n);
+    let kind = known_kind(nodes, n);
     let a = slot(nodes, n, 0);
-    if kind == 2 {
-        let left = if kind_of(nodes, a) < 2 {
+    if kind == Kind::Operator {
+        let left = if is_leaf(known_kind(nodes, a)) {
             leaf(run, work, a)
         } else {
             let x = expression(run, work, a);
@@ -82,7 +84,7 @@ fn eval(run: &Run, work: &[Cell; 64], n: usize) -> Word
             x
         };
         let b = slot(nodes, n, 1);
-        let right = if kind_of(nodes, b) < 2 {
+        let right = if is_leaf(known_kind(nodes, b)) {
             leaf(run, work, b)
         } else {
             let y = expression(run, work, b);
@@ -93,14 +95,14 @@ fn eval(run: &Run, work: &[Cell; 64], n: usize) -> Word
         };
         return operate(run, left, n, right);
     }
-    if kind < 2 {
+    if is_leaf(kind) {
         return leaf(run, work, n);
     }
     let z = eval(run, work, a);
     if z.is_stop() {
         return z;
     }
-    if kind == 3 {
+    if kind == Kind::Not {
         return Word::new(z.value().not(), z.mark());
     }
     Word::new(z.value(), run.sealed())

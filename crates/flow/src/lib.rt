@@ -3,4 +3,5 @@
 
 pub mod commands;
 pub mod eval;
+mod kinds;
 pub mod work;

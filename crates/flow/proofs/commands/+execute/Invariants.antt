@@ -3,11 +3,11 @@ use Prim.Native.Nat.{◌+◌}
 use Rattle.flow.proofs.Running.{Going}
 use Rattle.flow.proofs.commands.+execute.Given as goal
 
-abbrev pub invariant-loop-work : goal.invariant-loop-work
-invariant-loop-work l = Going l.run l.initial.work l.first l.start l.fuel l.work l.n l.context l.left
+abbrev pub invariant-loop-kind : goal.invariant-loop-kind
+invariant-loop-kind l = Going l.run l.initial.work l.first l.start l.fuel l.work l.n l.context l.left
 
-abbrev pub decreases-loop-work : goal.decreases-loop-work
-decreases-loop-work l = l.left + l.n
+abbrev pub decreases-loop-kind : goal.decreases-loop-kind
+decreases-loop-kind l = l.left + l.n
 
 abbrev pub decreases-execute : goal.decreases-execute
 decreases-execute l = l.first
