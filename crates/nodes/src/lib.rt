@@ -5,7 +5,6 @@ pub mod kinds;
 pub mod uses;
 
 ghost use Rattle.std.specs.Prelude.{◌≡◌, true, ℕ, ◌≤◌, ◌<◌, length, get_or, leb};
-ghost use Rattle.nodes.specs.Inside.Rows.{row_of};
 ghost use Rattle.nodes.specs.Nodes.{In, node_count, kind_at, op_at, slot_at, held_in, is_child, known, operator_zero, zero_in, range_right, of_sort, sort_right, slot_right, slots_right, node_verdict};
 ghost use Rattle.nodes.specs.Inside.Counting.{TakesChild, TakesNode, Judges};
 
