@@ -195,7 +195,7 @@ fn take_child(nodes: &[u8], n: usize, w: usize, held: Held, used: &mut [u8]) -> 
 }
 
 // Whether node n is free of every fault, by its kind; its children are counted.
-// An arm for each kind: by the table, slot after slot, load took 2.9 times as long.
+// An arm for each kind: with a table of what the slots hold, one after the other, load took 2.9 times as long.
 fn take_node(nodes: &[u8], limits: Limits, n: usize, used: &mut [u8]) -> bool
     requires { In nodes.now n × (n ≤ length used.old) }
     ensures { TakesNode nodes.now limits.fields limits.constants n used.old used.new result }
