@@ -5,7 +5,6 @@ pub mod kinds;
 pub mod uses;
 
 ghost use Rattle.std.specs.Prelude.{◌≡◌, true, ℕ, ◌≤◌, ◌<◌, length, get_or, leb};
-ghost use Rattle.nodes.specs.Inside.Rows.{row_of};
 ghost use Rattle.nodes.specs.Nodes.{In, node_count, kind_at, op_at, slot_at, held_in, is_child, known, operator_zero, zero_in, range_right, of_sort, sort_right, slot_right, slots_right, node_verdict};
 ghost use Rattle.nodes.specs.Inside.Counting.{TakesChild, TakesNode, Judges};
 
@@ -196,7 +195,7 @@ fn take_child(nodes: &[u8], n: usize, w: usize, held: Held, used: &mut [u8]) -> 
 }
 
 // Whether node n is free of every fault, by its kind; its children are counted.
-// An arm for each kind: by the table, slot after slot, load took 2.9 times as long.
+// An arm for each kind: with a table of what the slots hold, one after the other, load took 2.9 times as long.
 fn take_node(nodes: &[u8], limits: Limits, n: usize, used: &mut [u8]) -> bool
     requires { In nodes.now n × (n ≤ length used.old) }
     ensures { TakesNode nodes.now limits.fields limits.constants n used.old used.new result }
