@@ -1,4 +1,4 @@
-// Runs: what an expression gives and what a command does, over the sheet's nodes and a work store with a word for each field.
+// Runs: what an expression gives and what a command does, over the sheet's nodes and a work store with a cell for each field.
 #![tactic(auto)]
 
 pub mod commands;
