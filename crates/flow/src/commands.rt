@@ -1,6 +1,6 @@
 // What a command does, by recursion on the node number; the last command of a sequence, the side that an if takes and a while's next round are
 // done in the same call. It answers a word and no `Result`, which was tried: 64 levels take 6,792 bytes of stack with it, and 4,736 with words.
-// Kinds are their numbers, as in `nodes`: below 7 are classes of them that an enum would have to list.
+// Kinds are their numbers here and not `Kind`: a node that passed needs no case for a byte that is none, and below 7 are two kinds at one test.
 ghost use Rattle.std.specs.Prelude.{◌≡◌, suc, ◌≤◌, ◌<◌};
 ghost use Rattle.nodes.specs.Nodes.{kind_at};
 ghost use Rattle.flow.specs.Inside.Tasks.{CmdIn, Assigned, Tested, Ran};

@@ -23,7 +23,8 @@ pub enum Held {
     Command,
 }
 
-// The kind of node n.
+// Nodes and a number stay apart, and these ask that the node lies in them: a struct of both would be made for each child, from the same fact.
+/// The kind of node n.
 pub fn kind_of(nodes: &[u8], n: usize) -> u8
     requires { In nodes.now n }
     ensures { result ≡ kind_at nodes.now n }
@@ -31,7 +32,7 @@ pub fn kind_of(nodes: &[u8], n: usize) -> u8
     nodes[n * 8]
 }
 
-// Its operator byte.
+/// Its operator byte.
 pub fn op_of(nodes: &[u8], n: usize) -> u8
     requires { In nodes.now n }
     ensures { result ≡ op_at nodes.now n }
@@ -39,7 +40,7 @@ pub fn op_of(nodes: &[u8], n: usize) -> u8
     nodes[n * 8 + 1]
 }
 
-// The number in its slot k: a, b and c are 0, 1 and 2.
+/// The number in its slot k: a, b and c are 0, 1 and 2.
 pub fn slot(nodes: &[u8], n: usize, k: usize) -> usize
     requires { In nodes.now n × (k < 3) }
     ensures { (result ≡ slot_at nodes.now n k) × (result < 65536) }
@@ -242,8 +243,8 @@ fn take_node(nodes: &[u8], limits: Limits, n: usize, used: &mut [u8]) -> bool
     }
 }
 
-// Judges all nodes, the lowest first, and counts how often each is a child, from an array of zeros.
-// Which fault it is, is asked only of a node that has one.
+/// Judges all nodes, the lowest first, and counts how often each is a child, from an array of zeros.
+/// Which fault it is, is asked only of a node that has one.
 pub fn judge_nodes(nodes: &[u8], limits: Limits, used: &mut [u8]) -> Result<(), SheetError>
     requires { (node_count nodes.now ≤ length used.old) × ((c : ℕ) → get_or used.old c 0 ≡ 0) }
     ensures { Judges nodes.now limits.fields limits.constants used.new result }
