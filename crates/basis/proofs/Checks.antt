@@ -1,7 +1,7 @@
 -- Laws of checks in order, once over the list: the first that does not hold is told, all hold if the number is 0, a refusal writes nothing, and what is told
 -- is one of the list's.
 use Prim.Native.Nat.{ℕ}
-use mathlib.Core.Path.{◌≡◌, refl, sym, ap, ◌∙◌}
+use mathlib.Core.Path.{◌≡◌, refl, sym, ◌∙◌}
 use mathlib.Core.Bool.{true, false, true≢false}
 use mathlib.Core.List.{List, [], ◌∷◌, ◌++◌}
 use Rattle.basis.specs.Numbers as numbers

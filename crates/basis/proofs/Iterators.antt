@@ -55,11 +55,11 @@ pointwise_lem (x ∷ xs) [] e = absurd (cc)
 pointwise_lem (x ∷ xs) (y ∷ ys) e = ap (λ (b : Bool). eqb x y && b) (pointwise_lem xs ys (omega arith)) ∙ sym (all_front (length xs) _)
 
 -- `all`, by a closure that answers the test P of each item: over the items of a list
-pub list-all : {S A B F : Type 0} {steps : S → Option A → S → Type 0} {v : A → B} {g : Mut F (A × Unit {0}) Bool} {s u : S} {f : F}
+pub yields-all : {S A B F : Type 0} {steps : S → Option A → S → Type 0} {v : A → B} {g : Mut F (A × Unit {0}) Bool} {s u : S} {f : F}
     → (P : B → Bool) (xs : List B) (d : B) (r : Bool) → YieldsList steps v s xs → ChecksAll steps g s f r u
     → ((x : A) (b : Bool) (q : F) → Called g f (x, tt) b q → (q ≡ f) × (b ≡ P (v x)))
     → r ≡ all (length xs) (λ i. P (get_or xs i d))
-list-all P xs d r yields ran calls = all_from_yields_List P _ _ r ran yields calls ∙ list_all_lem P xs d
+yields-all P xs d r yields ran calls = all_from_yields_List P _ _ r ran yields calls ∙ list_all_lem P xs d
 
 -- over the numbers below n
 module _ (n : ℕ) (P : ℕ → Bool) where
@@ -67,7 +67,7 @@ module _ (n : ℕ) (P : ℕ → Bool) where
       → ((i : ℕ) (b : Bool) (q : F) → Called g f (i, tt) b q → (q ≡ f) × (b ≡ P i))
       → r ≡ all n P
   range-all r ran calls =
-      list-all P (range_with_len 0 n) 0 r (YieldsList-from_range 0 n n refl (omega arith)) ran calls
+      yields-all P (range_with_len 0 n) 0 r (YieldsList-from_range 0 n n refl (omega arith)) ran calls
       ∙ rw (length-range_with_len 0 n) (all_same n _ P (λ i l. ap P (get_or-range_with_len 0 n i 0 l ∙ zero-add i)))
 
   found : (r : Option ℕ)

@@ -1,4 +1,3 @@
 -- What only contracts and proofs inside the product cite.
 pub mod Formed
-pub mod Rows
 pub mod Counting

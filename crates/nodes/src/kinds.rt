@@ -2,7 +2,6 @@
 ghost use Rattle.std.specs.Prelude.{◌≡◌, ◌<◌, leb};
 ghost use Rattle.nodes.specs.Nodes.{held_in, known, operator_zero};
 ghost use Rattle.nodes.specs.Kinds.{number_of_kind, HasKind};
-ghost use Rattle.nodes.specs.Inside.Rows.{row_of};
 
 use crate::Held;
 
@@ -74,37 +73,21 @@ impl Kind {
         self == Kind::Operator || op == 0
     }
 
-    // What its slots c, b, a hold, an octal digit each: 1 a constant, 2 a field, 3 an expression, 4 a command.
-    // No table of `Held`: with one, load took twice as long.
-    #[tactic(auto, unfolding(crate::specs::Inside::Rows::row_of))]
-    fn row(self) -> u32
-        ensures { result ≡ row_of (number_of_kind self) }
-    {
-        match self {
-            Kind::Constant => 0o001,
-            Kind::Field => 0o002,
-            Kind::Operator => 0o033,
-            Kind::Not => 0o003,
-            Kind::Seal => 0o003,
-            Kind::Skip => 0o000,
-            Kind::Assign => 0o032,
-            Kind::Sequence => 0o044,
-            Kind::If => 0o443,
-            Kind::While => 0o043,
-        }
-    }
-
     /// What its slot k holds.
+    #[tactic(auto, unfolding(crate::specs::Nodes::held_in, crate::specs::Nodes::kinds))]
     pub fn holds(self, k: usize) -> Held
         requires { k < 3 }
         ensures { result ≡ held_in (number_of_kind self) k }
     {
-        let digit = (self.row() >> (k * 3)) % 8;
-        match digit {
-            1 => Held::Constant,
-            2 => Held::Field,
-            3 => Held::Expression,
-            4 => Held::Command,
+        match (self, k) {
+            (Kind::Constant, 0) => Held::Constant,
+            (Kind::Field | Kind::Assign, 0) => Held::Field,
+            (Kind::Operator, 0 | 1) => Held::Expression,
+            (Kind::Not | Kind::Seal | Kind::If | Kind::While, 0) => Held::Expression,
+            (Kind::Assign, 1) => Held::Expression,
+            (Kind::Sequence, 0 | 1) => Held::Command,
+            (Kind::If, 1 | 2) => Held::Command,
+            (Kind::While, 1) => Held::Command,
             _ => Held::Nothing,
         }
     }

@@ -3,7 +3,7 @@ ghost use Rattle.std.specs.Prelude.{◌≡◌, ◌≤◌, ◌<◌, length, get_o
 ghost use Rattle.basis.specs.Tests.{all};
 ghost use Rattle.nodes.specs.Inside.Counting.{counted};
 
-// Counts node w once more.
+/// Counts node w once more.
 #[tactic(auto, unfolding(crate::specs::Inside::Counting::counted))]
 pub fn count_use(used: &mut [u8], w: usize)
     requires { w < length used.old }
@@ -12,7 +12,7 @@ pub fn count_use(used: &mut [u8], w: usize)
     used[w] = if used[w] == 0 { 1 } else { 2 };
 }
 
-// Whether the first n counts are all 1. It goes over all of them, so that many are compared at a time.
+/// Whether the first n counts are all 1. It goes over all of them, so that many are compared at a time.
 pub fn all_once(used: &[u8], n: usize) -> bool
     requires { n ≤ length used.now }
     ensures { result ≡ all n (λ c. eqb (get_or used.now c 0) 1) }

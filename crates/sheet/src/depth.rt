@@ -5,7 +5,7 @@ ghost use Rattle.sheet.specs.Inside.Depth.{NodeIn, depth_at, depth_in};
 
 use nodes::{held_in, is_child, kind_of, slot};
 
-// Whether the tree at node n is at most `most` deep, whatever its constants. Slot b comes last: what follows in a sequence takes no frame.
+/// Whether the tree at node n is at most `most` deep, whatever its constants. Slot b comes last: what follows in a sequence takes no frame.
 #[cycle(child_fits_fits)]
 pub fn fits(nodes: &&[u8], n: usize, most: u32) -> bool
     requires { NodeIn nodes.now.now n }

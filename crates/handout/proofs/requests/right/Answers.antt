@@ -1,8 +1,6 @@
 -- The size, the count, then each field number: what fails contradicts a right request.
-use Prim.Native.Nat.{ℕ}
 use native.Mathlib.Omega.{arith}
-use mathlib.Core.Path.{◌≡◌, refl, sym, ◌∙◌}
-use mathlib.Core.Bool.{Bool, true, false}
+use mathlib.Core.Path.{sym, ◌∙◌}
 use borrow.Author.Tests.{tests}
 use lib.Dec.{ltb}
 use Rattle.std.proofs.Common.{rules}
@@ -19,8 +17,5 @@ returns-then-bytes-count c = sym (is_wrong _ _ (λ r. omega (arith, r.size, r.fe
 
 pub returns : goal.returns
 returns c =
-    let request = c.args.bytes.now in
-    let P : ℕ → Bool = λ i. ltb (field_asked request i) c.args.fields in
-    let count = c.count-count.ensures.asked in
-    let known = range-all c.count-count.result P _ c.all.ensures.ran (λ i b q k. search (rules, tests)) in
-    rw count at known ∙ sym (right_by_fields c.args.fields request (omega arith) (omega arith))
+    range-all _ (λ i. ltb (field_asked c.args.bytes.now i) c.args.fields) _ c.all.ensures.ran (λ i b q h. search (rules, tests))
+    ∙ (let count = c.count-count.ensures.asked in rw count (sym (right_by_fields _ _ (omega arith) (omega arith))))

@@ -1,7 +1,6 @@
 -- What is found only goes up, and stays at the summit once it is there.
 use Prim.Native.Nat.{◌<◌}
 use native.Mathlib.Omega.{arith}
-use mathlib.Core.Path.{sym, ◌∙◌}
 use Rattle.levels.specs.Levels.{count}
 use Rattle.levels.proofs.Climbing.{goes_up, stays-beside, stays-unpassed}
 use Rattle.levels.proofs.Levels.climb.Goals as goal

@@ -6,7 +6,7 @@ use Rattle.levels.proofs.Levels.meet.Goals as goal
 
 pub returns : goal.returns
 returns c =
-    let h = c.args.self.order in
-    let (a, b) = c.requires in
-    let is = c.climb.ensures _ (rw c.lowest.ensures.0 (meet-summit _ h _ _ _ a b (λ k b e. search rules))) in
-    (is, rw is (meet-is _ h _ _ a b).level)
+    let is =
+    c.climb.ensures _ (rw c.lowest.ensures.0 (meet-summit _ c.args.self.order _ _ _ c.requires.0 c.requires.1 (λ k b e. search rules)))
+    in
+    (is, rw is (meet-is _ c.args.self.order _ _ c.requires.0 c.requires.1).level)
