@@ -18,7 +18,7 @@ use store::Mode;
 pub fn judge_sheet(sheet: &[u8]) -> Result<(), Refusal>
     ensures { Judges (sheet_checks sheet.now) result }
 {
-    // No `From` and `?`: that the place fits is known of a sheet's error, and not of every `SheetError`.
+    // No `From` and `?`, and no `map_err`: that the place fits is known of this error, and neither a trait nor a closure is told so.
     match sheet::load(sheet) {
         Ok(()) => Ok(()),
         Err(wrong) => Err(Refusal::at(wrong.number(), wrong.place() as u16)),

@@ -42,8 +42,8 @@ impl<'a> Request<'a> {
     }
 }
 
-// What the first two bytes say.
-fn count(bytes: &[u8]) -> usize
+/// What the first two bytes say.
+pub fn count(bytes: &[u8]) -> usize
     requires { 2 ≤ length bytes.now }
     ensures asked { result ≡ asked_count bytes.now }
     ensures word { result < 65536 }
@@ -51,8 +51,8 @@ fn count(bytes: &[u8]) -> usize
     basis::word(bytes, 0) as usize
 }
 
-// The field number at a position of bytes that are as long.
-fn field_at(bytes: &[u8], position: usize) -> usize
+/// The field number at a position of bytes that are as long.
+pub fn field_at(bytes: &[u8], position: usize) -> usize
     requires { request_length (position + 1) ≤ length bytes.now }
     ensures asked { result ≡ field_asked bytes.now position }
     ensures word { result < 65536 }
