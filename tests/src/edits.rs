@@ -70,7 +70,7 @@ fn the_place_of_refusal_is_there() {
         let (name, file) = (quoted.next().expect(&edit), quoted.next().expect(&edit));
         let crate_ = edit.split('/').next().expect(&edit);
         let text = read(&root().join("crates").join(crate_).join(file));
-        let named = |line: &str| line.split([' ', '(']).any(|word| word == name);
+        let named = |line: &str| line.split([' ', '(', '<']).any(|word| word == name);
         assert!(text.lines().any(named), "{edit}: {name} in {file}");
     }
 }
