@@ -40,12 +40,6 @@ module _ (sheet : List ℕ) where
   some_number : is_ok (load_of sheet) ≡ false → verdict_number (load_of sheet) ≡ numbers.done → ⊥
   some_number e = number-some _ e
 
-  pub sheet_numbered : Numbered (sheet_checks sheet)
-  sheet_numbered = some_number also no_more
-
-  pub both_numbered : (store : List ℕ) (mode : Mode) → Numbered (sheet_checks sheet ++ store_checks sheet store mode)
-  both_numbered store mode = some_number also never numbers.store_misfit (λ e. omega arith) also never numbers.mark_wrong (λ e. omega arith) also no_more
-
   pub run_numbered : (store : List ℕ) (mode fuel room : ℕ) → Numbered (run_checks sheet store mode fuel room)
   run_numbered store mode fuel room =
       never numbers.mode_or_fuel (λ e. omega arith) also some_number also never numbers.store_misfit (λ e. omega arith) also never numbers.mark_wrong (λ e. omega arith) also never numbers.out_short (λ e. omega arith) also no_more
