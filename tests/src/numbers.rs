@@ -63,7 +63,7 @@ fn in_header(text: &str) -> List {
     constants_of(text, "enum beltuqash_numbers {")
 }
 
-/// The cases of the enum Number, `NodeUnknown = 19,` for NODE_UNKNOWN. Success is no case: it is 0.
+/// The cases of the enum Number, `NodeUnknown = 19,` for NODE_UNKNOWN. Success is no case: it is a constant beside them.
 fn in_enum(text: &str) -> List {
     let (_, from) = text.split_once("pub enum Number {").expect("the enum");
     let (cases, _) = from.split_once('}').expect("the end of the enum");
@@ -75,18 +75,22 @@ fn in_enum(text: &str) -> List {
         });
         Some((words.collect::<String>(), number(value)))
     });
-    list(cases.chain([("DONE".to_string(), 0)]))
+    list(cases.chain(constants(text)))
+}
+
+fn in_model(text: &str) -> List {
+    list(constants(text))
 }
 
 /// pub const NAME: u8 = NUMBER; constants of other types are no numbers of the table.
-fn in_model(text: &str) -> List {
-    list(text.lines().filter_map(|line| {
+fn constants(text: &str) -> impl Iterator<Item = (String, usize)> + '_ {
+    text.lines().filter_map(|line| {
         let constant = line.trim().strip_prefix("pub const ")?;
         let (name, rest) = constant.split_once(':')?;
         let (kind, value) = rest.split_once('=')?;
         let value = value.trim().trim_end_matches(';');
-        (kind.trim() == "u8").then(|| (name.trim(), number(value)))
-    }))
+        (kind.trim() == "u8").then(|| (name.trim().to_string(), number(value)))
+    })
 }
 
 /// abbrev pub name : ℕ, and on the next line name = NUMBER; other definitions are no numbers.

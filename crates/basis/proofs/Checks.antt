@@ -7,7 +7,8 @@ use mathlib.Core.List.{List, [], ◌∷◌, ◌++◌}
 use Rattle.basis.specs.Numbers as numbers
 use Rattle.std.specs.Prelude.{Result, Ok, Err}
 use Rattle.basis.specs.declared.answer.Refusal.{Refusal}
-use Rattle.basis.specs.Answer.{Answer, success, refusal, refused, verdict_of, Outcome}
+use Rattle.basis.specs.declared.answer.Answer.{Answer}
+use Rattle.basis.specs.Answer.{success, refusal, refused, verdict_of, Outcome}
 use Rattle.basis.specs.Checks.{Check, all_hold, tells, checked, Refuses, Judges}
 use Rattle.basis.proofs.Tests.{split}
 

@@ -14,11 +14,11 @@ both false b h = absurd (true≢false (sym h))
 pub and_of_lem : {a b : Bool} → a ≡ true → b ≡ true → (a && b) ≡ true
 and_of_lem h k = rw (h, k)
 
-apply : (a b : Bool) → (a ⇒ b) ≡ true → a ≡ true → b ≡ true
+pub apply : (a b : Bool) → (a ⇒ b) ≡ true → a ≡ true → b ≡ true
 apply true b h k = h
 apply false b h k = absurd (true≢false (sym k))
 
-implies_of : (a b : Bool) → (a ≡ true → b ≡ true) → (a ⇒ b) ≡ true
+pub implies_of : (a b : Bool) → (a ≡ true → b ≡ true) → (a ⇒ b) ≡ true
 implies_of true b f = f refl
 implies_of false b f = refl
 

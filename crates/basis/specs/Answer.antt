@@ -1,12 +1,9 @@
 -- What comes back from a call: a number of document 01's table, a place, and the units spent.
-use Rattle.std.specs.Prelude.{ℕ, ◌+◌, ◌*◌, ◌/◌, ◌%◌, ◌^◌, List, Result, Ok, Err}
+use Rattle.std.specs.Prelude.{ℕ, ◌+◌, ◌*◌, ◌/◌, ◌%◌, ◌^◌, List, ◌∷◌, ◌++◌, Result, Ok, Err}
+use Rattle.std.specs.Fmt.{decimal}
 use Rattle.basis.specs.Numbers as numbers
 use Rattle.basis.specs.declared.answer.Refusal.{Refusal}
-
-pub record Answer : Type 0 where
-  pub number : ℕ
-  pub place : ℕ
-  pub units : ℕ
+use Rattle.basis.specs.declared.answer.Answer.{Answer}
 
 abbrev pub answer : ℕ → ℕ → ℕ → Answer
 answer number place units = record { number = number; place = place; units = units }
@@ -25,6 +22,10 @@ word_of a = a.number + a.place * 2 ^ 8 + a.units * 2 ^ 32
 
 abbrev pub answer_in : ℕ → Answer
 answer_in word = answer (word % 2 ^ 8) (word / 2 ^ 8 % 2 ^ 16) (word / 2 ^ 32)
+
+-- an answer as text: number, place and units in decimal, a blank apart
+abbrev pub answer_text : Answer → List ℕ
+answer_text a = decimal a.number ++ 32 ∷ decimal a.place ++ 32 ∷ decimal a.units
 
 -- what a call that writes comes to: its answer, and the lent output afterwards
 pub record Outcome : Type 0 where

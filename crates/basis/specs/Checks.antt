@@ -1,7 +1,8 @@
 -- The order of checks, as data: whether each holds, and what is told where it does not.
 use Rattle.std.specs.Prelude.{ℕ, ◌≡◌, Bool, true, false, cond, ◌&&◌, List, [], ◌∷◌, Result, MatchResult}
 use Rattle.basis.specs.declared.answer.Refusal.{Refusal}
-use Rattle.basis.specs.Answer.{Answer, success, refusal, refused, Outcome}
+use Rattle.basis.specs.declared.answer.Answer.{Answer}
+use Rattle.basis.specs.Answer.{success, refusal, refused, Outcome}
 
 pub record Check : Type 0 where
   pub holds : Bool

@@ -2,6 +2,9 @@
 ghost use Rattle.std.specs.Prelude.{◌≡◌};
 ghost use Rattle.basis.specs.Numbers.{number_of, Decodes};
 
+/// Success.
+pub const DONE: u8 = 0;
+
 /// The refusals, each with its number. What is wrong with a node has 19 to 22; 5 is never given, and 0 is success.
 #[derive(Clone, Copy, Debug, PartialEq, Eq)]
 pub enum Number {

@@ -8,13 +8,16 @@ use mathlib.Core.List.{List, ◌++◌}
 use lib.ListN.{length, drop}
 use lib.Dec.{ltb}
 use Rattle.basis.specs.Numbers as numbers
-use Rattle.basis.specs.Answer.{Answer, answer, success, refusal, word_of, answer_in, Outcome}
+use Rattle.basis.specs.declared.answer.Answer.{Answer}
+use Rattle.basis.specs.declared.answer.Refusal.{Refusal}
+use Rattle.basis.specs.Answer.{answer, success, refusal, answer_of, verdict_of, word_of, answer_in, Outcome}
 use Rattle.basis.specs.Checks.{Check, check, all_hold, tells, checked}
+use Rattle.basis.proofs.Numbering.{answer_once, verdict_once}
 use Rattle.basis.proofs.Tests.{both, split, first-most}
 use Rattle.basis.proofs.Checks.{first_holds, first-fails, tells-success, append-holds, append-fails, no_more, ◌also◌, tells_one, goes_on, refuses}
 use Rattle.levels.specs.Levels.{count}
 use Rattle.levels.specs.Lattice.{lattice}
-use Rattle.std.specs.Prelude.{Ok, Err}
+use Rattle.std.specs.Prelude.{Result, Ok, Err}
 use Rattle.sections.specs.Verdict.{Verdict, verdict_number, verdict_place}
 use Rattle.sections.specs.Sections.{levels_of, constants_of, nodes_of}
 use Rattle.sections.specs.declared.verdict.Fault.TheVariants.{Unknown, Unused, Range, Sort}
@@ -30,7 +33,7 @@ use Rattle.rules.proofs.Stops.{EndUpTo, upto_done, upto_spent, upto_stopped, cmd
 use Rattle.handout.specs.Requests.{asked_count, request_right}
 use Rattle.handout.specs.Answers.{first_refusing}
 use Rattle.handout.proofs.Requesting.{right_has}
-use Rattle.beltuqash.specs.Calls.{sheet_checks, store_checks, run_checks, request_checks, load, ended, run_from, run, answered, hand_out, Tells, Yields}
+use Rattle.beltuqash.specs.Calls.{sheet_checks, store_checks, run_checks, request_checks, load, ended, run_from, run, answered, hand_out, Comes, Tells, Yields}
 use Rattle.beltuqash.specs.Inside.Given.{Given}
 use Rattle.beltuqash.proofs.Checking.{load_is, run_holds, nodes-long}
 
@@ -56,6 +59,17 @@ tells-once answer r s p q = p ∙ sym q
 
 pub yields_once : (outcome : Outcome) (r s : ℕ) (x y : List ℕ) → Yields outcome r x → Yields outcome s y → (r ≡ s) × (x ≡ y)
 yields_once outcome r s x y p q = (tells-once outcome.answer r s p.0 q.0, p.1 ∙ sym q.1)
+
+-- and so are two results of a call that gives one, and two outputs with them
+pub verdicts_once : (answer : Answer) (r s : Result (Unit {0}) Refusal) → verdict_of r ≡ answer → verdict_of s ≡ answer → r ≡ s
+verdicts_once answer r s p q = verdict_once r s (p ∙ sym q)
+
+module _ (outcome : Outcome) (x y : List ℕ) where
+  pub comes_once : (r s : Result ℕ Refusal) → Comes outcome (answer_of r) x → Comes outcome (answer_of s) y → (r ≡ s) × (x ≡ y)
+  comes_once r s p q = (answer_once r s (p.0 ∙ sym q.0), p.1 ∙ sym q.1)
+
+  pub given-once : (r s : Result (Unit {0}) Refusal) → Comes outcome (verdict_of r) x → Comes outcome (verdict_of s) y → (r ≡ s) × (x ≡ y)
+  given-once r s p q = (verdicts_once outcome.answer r s p.0 q.0, p.1 ∙ sym q.1)
 
 -- ── the range of what a call answers ────────────────────────────────────────────────────────
 

@@ -2,7 +2,8 @@
 -- and what comes after them.
 use Rattle.std.specs.Prelude.{ℕ, ◌-◌, ◌≡◌, ◌&&◌, List, [], ◌∷◌, ◌++◌, length, ltb, leb, is_ok}
 use Rattle.basis.specs.Numbers as numbers
-use Rattle.basis.specs.Answer.{Answer, answer, success, word_of, Outcome}
+use Rattle.basis.specs.declared.answer.Answer.{Answer}
+use Rattle.basis.specs.Answer.{answer, success, word_of, Outcome}
 use Rattle.basis.specs.Checks.{Check, check, all_hold, tells, checked}
 use Rattle.levels.specs.Levels.{count}
 use Rattle.levels.specs.Lattice.{lattice}

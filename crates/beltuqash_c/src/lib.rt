@@ -5,7 +5,7 @@ ghost use Rattle.std.specs.Prelude.{◌≡◌};
 ghost use Rattle.basis.specs.Answer.{word_of, answer_of};
 ghost use Rattle.beltuqash.specs.Calls.{load, run, hand_out, Tells, Yields};
 
-use basis::answer::Refusal;
+use basis::answer::{Answer, Refusal};
 
 /// Judges a sheet.
 #[unsafe(no_mangle)]
@@ -51,12 +51,7 @@ fn word(answer: Result<u32, Refusal>) -> u64
     ensures { result ≡ word_of (answer_of answer) }
 {
     match answer {
-        Ok(units) => u64::from(units) << 32,
-        Err(refusal) => {
-            let number = u64::from(u8::from(refusal.number));
-            let place = u64::from(refusal.place) << 8;
-            let units = u64::from(refusal.units) << 32;
-            number + place + units
-        }
+        Ok(units) => Answer::success(units).pack(),
+        Err(refusal) => Answer::from(refusal).pack(),
     }
 }

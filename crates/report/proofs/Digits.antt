@@ -1,46 +1,67 @@
--- The digits of a number are what std prints: one below 10, those of n / 10 and one more from 10 on. And how long they are.
-use Rattle.std.proofs.Common.{ℕ, suc, ◌+◌, ◌-◌, ◌/◌, ◌%◌, ◌^◌, ◌<◌, ◌≤◌, ◌≡◌, [], ◌∷◌, ◌++◌, length, arith, ap}
-use Rattle.std.proofs.lemmas.Fmt.{AppendsLastDigit, decimal_from_appends, decimal_digit, decimal_step, length-decimal-le, length-decimal-le_succ}
-use Rattle.std.specs.Fmt.{decimal as std_decimal}
-use Rattle.value.specs.Bytes.{of_bits}
+-- The digits of a number: one below 10, those of n / 10 and one more from 10 on; a value's text by its 32 bits; and how long they are.
+use Prim.Native.Nat.{ℕ, zero, suc, ◌+◌, ◌-◌, ◌/◌, ◌%◌, ◌^◌, ◌≤◌, ◌<◌}
+use native.Mathlib.Omega.{arith}
 use native.Mathlib.Decide.{dec_le}
+use mathlib.Core.Path.{◌≡◌, sym, ap}
+use mathlib.Core.List.{[], ◌∷◌, ◌++◌}
 use borrow.Author.Tests.{lt-ltb, le-ltb}
+use lib.IntN.{ℤ, pos, negsuc}
+use lib.ListN.{length, length-append}
+use mir.Syntax.{w32}
+use mir.Val.{SFits}
+use Rattle.value.specs.Bytes.{of_bits, bits_of}
 use Rattle.report.specs.Text.{digits_within, decimal, part, signed}
 
-appends : AppendsLastDigit digits_within
+-- enough is enough
+within_same : (j k n : ℕ) → n < j → n < k → digits_within j n ≡ digits_within k n
 unfolding digits_within
-appends = record {
-  one = λ k n h. rw (lt-ltb n 10 h);
-  more = λ k n h. rw (le-ltb n 10 h);
-}
+within_same zero k n f g = absurd (omega arith)
+within_same (suc j) zero n f g = absurd (omega arith)
+within_same (suc j) (suc k) n f g = go (dec_le 10 n) (λ h. within_same j k (n / 10) (omega arith) (omega arith))
+  where
+    go : Dec (10 ≤ n) → (10 ≤ n → digits_within j (n / 10) ≡ digits_within k (n / 10)) → digits_within (suc j) n ≡ digits_within (suc k) n
+    go (yes h) same = rw (le-ltb n 10 h, same h)
+    go (no h) same = rw (lt-ltb n 10 (omega arith))
 
-decimal_is : (n : ℕ) → n < 2 ^ 64 → decimal n ≡ std_decimal n
-unfolding decimal
-decimal_is n h = decimal_from_appends digits_within appends (suc n) n h (omega (arith, length-decimal-le_succ n h))
+pub decimal_one : (n : ℕ) → n < 10 → decimal n ≡ (48 + n) ∷ []
+unfolding decimal digits_within
+decimal_one n h = rw (lt-ltb n 10 h)
 
-pub decimal_one : (n : ℕ) → n < 10 → decimal n ≡ (48 + n % 10) ∷ []
-decimal_one n h = rw (decimal_is n (omega arith), decimal_digit n h) (ap (λ (k : ℕ). (48 + k) ∷ []) (omega arith))
+pub decimal_more : (n : ℕ) → 10 ≤ n → decimal n ≡ decimal (n / 10) ++ ((48 + n % 10) ∷ [])
+unfolding decimal digits_within
+decimal_more n h = rw (le-ltb n 10 h, within_same n (suc (n / 10)) (n / 10) (omega arith) (omega arith))
 
-pub decimal_more : (n : ℕ) → 10 ≤ n → n < 2 ^ 64 → decimal n ≡ decimal (n / 10) ++ ((48 + n % 10) ∷ [])
-decimal_more n h fits = rw (decimal_is n fits, decimal_is (n / 10) (omega arith)) (decimal_step n h fits)
+-- a value's text, from its 32 bits
+pub signed-whole : (z : ℤ) {u : ℕ} → SFits w32 z → u ≡ bits_of z → u < 2147483648 → signed z ≡ decimal u
+unfolding signed bits_of
+signed-whole (pos n) fits is h = ap decimal (sym is)
+signed-whole (negsuc n) fits is h = absurd (omega (arith, fits.sfits))
+
+pub signed_minus : (z : ℤ) {u : ℕ} → SFits w32 z → u ≡ bits_of z → 2147483648 ≤ u → signed z ≡ (45 ∷ []) ++ decimal (4294967295 - u + 1)
+unfolding signed bits_of
+signed_minus (pos n) fits is h = absurd (omega (arith, fits.sfits))
+signed_minus (negsuc n) {u} fits is h =
+    let same : suc n ≡ 4294967295 - u + 1 = omega (arith, fits.sfits) in
+    ap (λ (k : ℕ). 45 ∷ decimal k) same
 
 -- ── how long they are ───────────────────────────────────────────────────────────────────────
 
-length-decimal : (k n : ℕ) → 0 < k → n < 10 ^ k → n < 2 ^ 64 → length (decimal n) ≤ k
-length-decimal k n some h fits = rw (decimal_is n fits) (length-decimal-le k n some h fits)
+pub decimal-length : (k n : ℕ) → n < 10 ^ suc k → length (decimal n) ≤ suc k
+decimal-length zero n h = rw (decimal_one n h) (omega arith)
+decimal-length (suc k) n h = go (dec_le 10 n) (λ ten. decimal-length k (n / 10) (omega arith))
+  where
+    go : Dec (10 ≤ n) → (10 ≤ n → length (decimal (n / 10)) ≤ suc k) → length (decimal n) ≤ suc (suc k)
+    go (yes ten) fewer = rw (decimal_more n ten) (omega (arith, length-append (decimal (n / 10)) ((48 + n % 10) ∷ []), fewer ten))
+    go (no few) fewer = rw (decimal_one n (omega arith)) (omega arith)
 
-pub part_length : (k n : ℕ) → 0 < k → n < 10 ^ k → n < 2 ^ 64 → length (part n) ≤ suc k
+pub part_length : (k n : ℕ) → n < 10 ^ suc k → length (part n) ≤ suc (suc k)
 unfolding part
-part_length k n some h fits = omega (arith, length-decimal k n some h fits)
+part_length k n h = omega (arith, decimal-length k n h)
 
 pub signed-length : (u : ℕ) → length (signed (of_bits u)) ≤ 11
 unfolding signed of_bits
 signed-length u = go (dec_le 2147483648 u)
   where
-    -- the digits below 0 and from 0 on
-    ten : (n : ℕ) → n < 4294967296 → length (decimal n) ≤ 10
-    ten n h = length-decimal 10 n (omega arith) (omega arith) (omega arith)
-
     go : Dec (2147483648 ≤ u) → length (signed (of_bits u)) ≤ 11
-    go (yes below) = rw (le-ltb u 2147483648 below) (omega (arith, ten (suc (4294967296 - suc u)) (omega arith)))
-    go (no above) = rw (lt-ltb u 2147483648 (omega arith)) (omega (arith, ten u (omega arith)))
+    go (yes below) = rw (le-ltb u 2147483648 below) (omega (arith, decimal-length 9 (suc (4294967296 - suc u)) (omega arith)))
+    go (no above) = rw (lt-ltb u 2147483648 (omega arith)) (omega (arith, decimal-length 9 u (omega arith)))

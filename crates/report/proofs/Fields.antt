@@ -10,7 +10,7 @@ use Rattle.store.specs.Marks.{Mark, whole, partial, level_of, mark_of}
 use Rattle.store.specs.Stores.{mark_at, value_of, cell_at}
 use Rattle.store.proofs.Marks.{level-most}
 use Rattle.report.specs.Text.{signed, without_zero, name_of, mark_word, mark_text, cell_text, field_line}
-use Rattle.report.proofs.Each.{each-length}
+use Rattle.report.proofs.Adding.{each-length}
 use Rattle.report.proofs.Digits.{part_length, signed-length}
 
 -- ── how long they are ───────────────────────────────────────────────────────────────────────
@@ -32,6 +32,6 @@ pub line_length : (fields store : List ℕ) (i : ℕ) → mark_at store i < 256 
 unfolding field_line cell_text cell_at mark_text
 line_length fields store i byte =
     let mark = mark_of (mark_at store i) in
-    let level = part_length 3 (level_of mark) (omega arith) (omega (arith, level-most (mark_at store i))) (omega (arith, level-most (mark_at store i))) in
+    let level = part_length 2 (level_of mark) (omega (arith, level-most (mark_at store i))) in
     let value : length (signed (value_of store i).n) ≤ 11 = signed-length _ in
     simp length-append (omega (arith, name_length fields i, level, word_length mark, value))

@@ -1,19 +1,31 @@
--- How long the text can be.
+-- What the answer's number decides, and how long the text can be.
 use Prim.Native.Nat.{ℕ, ◌/◌, ◌^◌, ◌≤◌, ◌<◌}
 use native.Mathlib.Omega.{arith}
+use mathlib.Core.Path.{◌≡◌}
 use mathlib.Core.List.{List}
+use borrow.Author.Tests.{eq-eqb, ne_eqb}
 use lib.ListN.{length, get_or, length-append}
-use Rattle.basis.specs.Answer.{Answer}
+use Rattle.basis.specs.Numbers as numbers
+use Rattle.basis.specs.declared.answer.Answer.{Answer}
 use Rattle.store.specs.Stores.{entry_at}
-use Rattle.report.specs.Text.{part, field_line, done_text, refused_text}
+use Rattle.report.specs.Text.{part, field_line, done_text, refused_text, printed}
 use Rattle.report.specs.Report.{longest}
-use Rattle.report.proofs.Each.{each-length}
+use Rattle.report.proofs.Adding.{each-length}
 use Rattle.report.proofs.Digits.{part_length}
 use Rattle.report.proofs.Fields.{line_length}
 
+module _ (a : Answer) (fields store : List ℕ) where
+  pub printed-done : a.number ≡ numbers.done → printed a fields store ≡ done_text a.units fields store
+  unfolding printed
+  printed-done h = rw (eq-eqb a.number 0 h)
+
+  pub printed-refused : (a.number ≡ numbers.done → ⊥) → printed a fields store ≡ refused_text a
+  unfolding printed
+  printed-refused h = rw (ne_eqb a.number 0 h)
+
 -- a number of 32 bits
 pub number_length : (n : ℕ) → n < 2 ^ 32 → length (part n) ≤ 11
-number_length n fits = part_length 10 n (omega arith) (omega arith) (omega arith)
+number_length n fits = part_length 9 n (omega arith)
 
 -- the text of a run of at most 64 fields
 pub done-length : (units : ℕ) (fields store : List ℕ) → units < 2 ^ 32 → length fields ≤ 512 → ((k : ℕ) → get_or store k 0 < 256)

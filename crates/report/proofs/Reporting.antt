@@ -1,26 +1,18 @@
 -- What the runner prints for a file that is cut and for one that is not, and that a run that is done has at most 64 fields.
 use Prim.Native.Nat.{ℕ, ◌≤◌}
-use mathlib.Core.Path.{◌≡◌, refl}
+use mathlib.Core.Path.{◌≡◌}
 use mathlib.Core.Bool.{true, false}
 use mathlib.Core.List.{List}
-use borrow.Author.Tests.{ne_eqb}
 use lib.ListN.{length}
 use Rattle.basis.specs.Numbers as numbers
-use Rattle.basis.specs.declared.answer.Refusal.{Refusal}
-use Rattle.basis.specs.Answer.{refusal, refused}
-use Rattle.basis.proofs.Numbering.{number_some}
+use Rattle.basis.specs.Answer.{refusal}
 use Rattle.basis.proofs.Checks.{past_checks}
 use Rattle.sections.specs.Sections.{fields_of}
 use Rattle.beltuqash.specs.Calls.{run_checks, run_from, run}
 use Rattle.beltuqash.proofs.Checking.{run_numbered, run_holds, fields-long}
 use Rattle.report.specs.File.{mode_in, fuel_in, sheet_in, store_in, is_cut}
-use Rattle.report.specs.Text.{refused_text, printed}
+use Rattle.report.specs.Text.{refused_text}
 use Rattle.report.specs.Report.{lent, outcome_of, run_text, report_of}
-
--- no refusal has the number of success
-pub printed-refused : (r : Refusal) (fields store : List ℕ) → printed (refused r) fields store ≡ refused_text (refused r)
-unfolding printed
-printed-refused r fields store = rw (ne_eqb _ _ (number_some r.number)) refl
 
 module _ (file : List ℕ) where
   pub report_cut : is_cut file ≡ true → report_of file ≡ refused_text (refusal numbers.sheet_length 0)

@@ -1,7 +1,7 @@
 -- Document 01, "Trials": the text that the runner program prints, as ASCII codes.
 use Rattle.std.specs.Prelude.{ℕ, zero, suc, ◌+◌, ◌/◌, ◌%◌, cond, List, [], ◌∷◌, ◌++◌, length, eqb, ltb, ℤ, pos, negsuc}
 use Rattle.basis.specs.Numbers as numbers
-use Rattle.basis.specs.Answer.{Answer}
+use Rattle.basis.specs.declared.answer.Answer.{Answer}
 use Rattle.names.specs.Names.{name_byte}
 use Rattle.store.specs.Cells.{Cell, cell}
 use Rattle.store.specs.Marks.{Mark, whole, partial, level_of}

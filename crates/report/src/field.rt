@@ -1,10 +1,10 @@
 // A line per field: name, level, `whole` or `partial`, value.
-ghost use Rattle.std.specs.Prelude.{◌≡◌, ◌+◌, ◌≤◌, ◌++◌, length};
+ghost use Rattle.std.specs.Prelude.{◌≡◌, ◌+◌, ◌≤◌, length};
 ghost use Rattle.names.specs.Names.{NameIn};
 ghost use Rattle.store.specs.Marks.{mark_of};
 ghost use Rattle.store.specs.Stores.{cell_at, store_length};
 ghost use Rattle.report.specs.Inside.Given.{Entries};
-ghost use Rattle.report.specs.Inside.Room.{HasRoom};
+ghost use Rattle.report.specs.Inside.Room.{Adds};
 ghost use Rattle.report.specs.Text.{without_zero, name_of, mark_word, mark_text, cell_text, field_line, field_lines};
 
 use crate::text::Text;
@@ -12,8 +12,7 @@ use crate::text::Text;
 // A byte of a name, if it is not zero.
 #[tactic(auto, unfolding(crate::specs::Text::without_zero))]
 fn put_unless_zero(text: &mut Text, byte: u8)
-    requires { HasRoom text.old (without_zero byte) }
-    ensures { text.new ≡ text.old ++ without_zero byte }
+    ensures { Adds text.old text.new (without_zero byte) }
 {
     if byte != 0 {
         text.push(byte);
@@ -21,11 +20,9 @@ fn put_unless_zero(text: &mut Text, byte: u8)
 }
 
 // Field i's name.
-#[tactic(auto, using(crate::proofs::Each::none_put), unfolding(crate::specs::Text::name_of))]
 fn put_name(text: &mut Text, fields: &[u8], i: usize)
-    requires name { NameIn fields.now i }
-    requires room { HasRoom text.old (name_of fields.now i) }
-    ensures { text.new ≡ text.old ++ name_of fields.now i }
+    requires { NameIn fields.now i }
+    ensures { Adds text.old text.new (name_of fields.now i) }
 {
     for &byte in &fields[i * 8..i * 8 + 8] {
         put_unless_zero(text, byte);
@@ -44,10 +41,8 @@ fn mark_word(mark: u32) -> &'static [u8]
 }
 
 // A mark's level, and whether it is whole or partial.
-#[tactic(auto, unfolding(crate::specs::Text::mark_text))]
 fn put_mark(text: &mut Text, mark: u32)
-    requires { HasRoom text.old (mark_text (mark_of mark)) }
-    ensures { text.new ≡ text.old ++ mark_text (mark_of mark) }
+    ensures { Adds text.old text.new (mark_text (mark_of mark)) }
 {
     text.put_part(store::level_said(mark));
     text.push(b' ');
@@ -55,11 +50,9 @@ fn put_mark(text: &mut Text, mark: u32)
 }
 
 // Field i's mark and value.
-#[tactic(auto, unfolding(crate::specs::Text::cell_text, store::specs::Stores::cell_at))]
 fn put_cell(text: &mut Text, store: &[u8], i: usize)
-    requires entry { store_length (i + 1) ≤ length store.now }
-    requires room { HasRoom text.old (cell_text (cell_at store.now i)) }
-    ensures { text.new ≡ text.old ++ cell_text (cell_at store.now i) }
+    requires { store_length (i + 1) ≤ length store.now }
+    ensures { Adds text.old text.new (cell_text (cell_at store.now i)) }
 {
     put_mark(text, store::mark_at(store, i));
     text.push(b' ');
@@ -67,24 +60,20 @@ fn put_cell(text: &mut Text, store: &[u8], i: usize)
 }
 
 // Field i's line.
-#[tactic(auto, unfolding(crate::specs::Text::field_line))]
 fn put_line(text: &mut Text, fields: &[u8], store: &[u8], i: usize)
     requires name { NameIn fields.now i }
     requires entry { store_length (i + 1) ≤ length store.now }
-    requires room { HasRoom text.old (field_line fields.now store.now i) }
-    ensures { text.new ≡ text.old ++ field_line fields.now store.now i }
+    ensures { Adds text.old text.new (field_line fields.now store.now i) }
 {
     put_name(text, fields, i);
     put_cell(text, store, i);
     text.push(b'\n');
 }
 
-// All fields' lines. Names and store stand apart: of slices in a struct a proof is not told that their items are bytes, which bounds a line.
-#[tactic(auto, using(crate::proofs::Each::none_put, crate::proofs::Each::one_more, crate::proofs::Each::next_room))]
-pub(crate) fn put_lines(text: &mut Text, fields: &[u8], store: &[u8])
-    requires entries { Entries fields.now store.now }
-    requires room { HasRoom text.old (field_lines fields.now store.now) }
-    ensures { text.new ≡ text.old ++ field_lines fields.now store.now }
+/// All fields' lines. Names and store stand apart: of slices in a struct a proof is not told that their items are bytes, which bounds a line.
+pub fn put_lines(text: &mut Text, fields: &[u8], store: &[u8])
+    requires { Entries fields.now store.now }
+    ensures { Adds text.old text.new (field_lines fields.now store.now) }
 {
     for i in 0..fields.len() / 8 {
         put_line(text, fields, store, i);

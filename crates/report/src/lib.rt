@@ -9,6 +9,7 @@ pub mod text;
 ghost use Rattle.std.specs.Prelude.{◌≡◌};
 ghost use Rattle.report.specs.Report.{report_of};
 
+use basis::answer::Answer;
 use basis::numbers::Number;
 use file::RunFile;
 use sections::Parts;
@@ -20,17 +21,15 @@ pub fn report(file: &[u8]) -> Text
     ensures { result ≡ report_of file.now }
 {
     let Some(run) = RunFile::parse(file) else {
-        return outcome::refused_text(Number::SheetLength.into());
+        return outcome::refused_text(Answer::refusal(Number::SheetLength.into(), 0));
     };
     let mut out = [0; LONGEST];
-    match beltuqash::run(
+    let answer = beltuqash::run(
         run.sheet,
         run.store,
         u32::from(run.mode),
         run.fuel,
         &mut out,
-    ) {
-        Ok(units) => outcome::done_text(units, Parts::of(run.sheet).fields, &out),
-        Err(refusal) => outcome::refused_text(refusal),
-    }
+    );
+    outcome::printed(answer.into(), Parts::of(run.sheet).fields, &out)
 }

@@ -1,7 +1,6 @@
 // A text as it grows in a fixed buffer: bytes, and numbers as decimals.
-ghost use Rattle.std.specs.Prelude.{◌≡◌, ◌<◌, ◌∷◌, [], ◌++◌, length};
-ghost use Rattle.report.specs.Inside.Room.{HasRoom};
-ghost use Rattle.report.specs.Report.{longest};
+ghost use Rattle.std.specs.Prelude.{◌≡◌, ◌∷◌, []};
+ghost use Rattle.report.specs.Inside.Room.{Adds};
 ghost use Rattle.report.specs.Text.{decimal, part, signed};
 
 use std::marker::Model;
@@ -44,27 +43,30 @@ impl Text {
         &self.bytes[..self.len]
     }
 
-    pub(crate) fn push(&mut self, byte: u8)
-        requires { length self.old < longest }
-        ensures { self.new ≡ self.old ++ byte ∷ [] }
+    /// A byte, if there is room for it: so no method that puts a text has to ask for room.
+    pub fn push(&mut self, byte: u8)
+        ensures { Adds self.old self.new (byte ∷ []) }
     {
-        self.bytes[self.len] = byte;
-        self.len += 1;
+        if self.len < LONGEST {
+            self.bytes[self.len] = byte;
+            self.len += 1;
+        }
     }
 
-    pub(crate) fn extend_from_slice(&mut self, text: &[u8])
-        requires { HasRoom self.old text.now }
-        ensures { self.new ≡ self.old ++ text.now }
+    /// A text, if there is room for all of it.
+    pub fn extend_from_slice(&mut self, text: &[u8])
+        ensures { Adds self.old self.new text.now }
     {
-        let end = self.len + text.len();
-        self.bytes[self.len..end].copy_from_slice(text);
-        self.len = end;
+        if text.len() <= LONGEST - self.len {
+            let end = self.len + text.len();
+            self.bytes[self.len..end].copy_from_slice(text);
+            self.len = end;
+        }
     }
 
-    // Puts a number's digits: those before the last, then the last. No `write!`, which may fail as far as its contract says, where this cannot.
-    pub(crate) fn put_decimal(&mut self, n: u32)
-        requires { HasRoom self.old (decimal n) }
-        ensures { self.new ≡ self.old ++ decimal n }
+    /// A number's digits: those before the last, then the last. No `write!`, which may fail as far as its contract says, where this cannot.
+    pub fn put_decimal(&mut self, n: u32)
+        ensures { Adds self.old self.new (decimal n) }
     {
         if n >= 10 {
             self.put_decimal(n / 10);
@@ -72,21 +74,18 @@ impl Text {
         self.push(b'0' + (n % 10) as u8);
     }
 
-    // Puts a number as a part of a line, after a blank.
-    #[tactic(auto, unfolding(crate::specs::Text::part))]
-    pub(crate) fn put_part(&mut self, n: u32)
-        requires { HasRoom self.old (part n) }
-        ensures { self.new ≡ self.old ++ part n }
+    /// A number as a part of a line, after a blank.
+    pub fn put_part(&mut self, n: u32)
+        ensures { Adds self.old self.new (part n) }
     {
         self.push(b' ');
         self.put_decimal(n);
     }
 
-    // Puts a value, with a minus sign below 0.
+    /// A value, with a minus sign below 0.
     #[tactic(auto, unfolding(crate::specs::Text::signed))]
-    pub(crate) fn put_signed(&mut self, value: Value)
-        requires { HasRoom self.old (signed value.n) }
-        ensures { self.new ≡ self.old ++ signed value.n }
+    pub fn put_signed(&mut self, value: Value)
+        ensures { Adds self.old self.new (signed value.n) }
     {
         if value.n < 0 {
             self.push(b'-');

@@ -8,7 +8,8 @@ use mathlib.Core.Logic.{inl, inr}
 use lib.ListN.{length, drop}
 use lib.Seq.{drop_at}
 use Rattle.basis.specs.Numbers as numbers
-use Rattle.basis.specs.Answer.{Answer, answer, success, refusal, Outcome}
+use Rattle.basis.specs.declared.answer.Answer.{Answer}
+use Rattle.basis.specs.Answer.{answer, success, refusal, Outcome}
 use Rattle.basis.specs.Checks.{Check, all_hold, checked}
 use Rattle.basis.proofs.Tests.{split}
 use Rattle.basis.proofs.Checks.{tells-success, no_more, ◌also◌, Each, tells_one, goes_on, refuses}

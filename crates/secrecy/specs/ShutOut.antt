@@ -7,7 +7,8 @@ use Rattle.std.proofs.Math.Path.{refl}
 use Rattle.value.specs.Values.{operating}
 use Rattle.value.specs.Bytes.{of_bits, bits_of, bytes_of}
 use Rattle.basis.specs.Numbers as numbers
-use Rattle.basis.specs.Answer.{Answer, word_of, answer_in}
+use Rattle.basis.specs.declared.answer.Answer.{Answer}
+use Rattle.basis.specs.Answer.{word_of, answer_in}
 use Rattle.levels.specs.Lattice.{lattice}
 use Rattle.sections.specs.Sections.{levels_of}
 use Rattle.sheet.specs.Trees.{Cmd, sequence}

@@ -12,7 +12,8 @@ use Rattle.store.specs.Marks.{Mark, whole, partial}
 use Rattle.store.specs.Stores.{entry_of}
 use Rattle.rules.specs.LevelMarks.{marking}
 use Rattle.basis.specs.Numbers as numbers
-use Rattle.basis.specs.Answer.{Answer, answer, success, refusal, Outcome}
+use Rattle.basis.specs.declared.answer.Answer.{Answer}
+use Rattle.basis.specs.Answer.{answer, success, refusal, Outcome}
 use Rattle.beltuqash.specs.Calls.{load, run, calling}
 use Rattle.secrecy.specs.Flag.{node, flag_sheet, store_at}
 

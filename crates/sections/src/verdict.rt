@@ -1,9 +1,9 @@
 // What load refuses a sheet with. `specs/Verdict` gives each case its number in document 01's table.
 ghost use Rattle.std.specs.Prelude.{◌≡◌};
 ghost use Rattle.basis.specs.Numbers.{number_of};
-ghost use Rattle.sections.specs.Verdict.{fault_number, error_number, error_place};
+ghost use Rattle.sections.specs.Verdict.{fault_number, error_number, error_place, verdict_number, verdict_place};
 
-use basis::numbers::Number;
+use basis::numbers::{DONE, Number};
 
 /// The first thing that is wrong with a sheet.
 #[derive(Clone, Copy, Debug, PartialEq, Eq)]
@@ -75,5 +75,25 @@ impl SheetError {
             SheetError::Node(_, n) => n,
             _ => 0,
         }
+    }
+}
+
+/// The number of a verdict: of a sheet that passes it is that of success.
+pub fn number(verdict: Result<(), SheetError>) -> u8
+    ensures { result ≡ verdict_number verdict }
+{
+    match verdict {
+        Ok(()) => DONE,
+        Err(wrong) => wrong.number().into(),
+    }
+}
+
+/// The place of a verdict: a sheet that passes has none.
+pub fn place(verdict: Result<(), SheetError>) -> usize
+    ensures { result ≡ verdict_place verdict }
+{
+    match verdict {
+        Ok(()) => 0,
+        Err(wrong) => wrong.place(),
     }
 }

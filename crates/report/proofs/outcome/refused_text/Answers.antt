@@ -1,25 +1,18 @@
--- There is room for the last parts of the line, since there is for all.
+-- The line's parts, one after another, and there is room for them.
 use borrow.Author.Rules.{rules}
-use Rattle.std.proofs.Common.{ℕ, arith, length, length-append, ap, ◌∙◌}
-use Rattle.basis.specs.Answer.{refused}
-use Rattle.report.specs.Text.{part, refused_text}
+use Rattle.std.proofs.Common.{arith}
+use Rattle.report.specs.Text.{refused_text}
+use Rattle.report.proofs.Adding.{◌then◌}
 use Rattle.report.proofs.Printing.{refused-length}
 use Rattle.report.proofs.outcome.refused_text.Goals as goal
 
--- how long a number's text is
-abbrev long : ℕ → ℕ
-long n = length (part n)
-
-pub put_part-requires-3 : goal.put_part-requires-3
+pub returns : goal.returns
 unfolding refused_text
-put_part-requires-3 c =
-    let whole = simp length-append at (refused-length (refused c.args.refusal) (search rules) (search rules) (search rules)) in
-    rw (c.put_part-2.ensures, c.put_part.ensures, c.extend_from_slice.ensures, c.new-text.ensures)
-    (simp length-append (omega (arith, whole, ap long (c.from-2.ensures ∙ c.from.ensures), ap long c.from-3.ensures)))
-
-pub push-requires : goal.push-requires
-unfolding refused_text
-push-requires c =
-    let whole = simp length-append at (refused-length (refused c.args.refusal) (search rules) (search rules) (search rules)) in
-    rw (c.put_part-3.ensures, c.put_part-2.ensures, c.put_part.ensures, c.extend_from_slice.ensures, c.new-text.ensures)
-    (simp length-append (omega (arith, whole, ap long (c.from-2.ensures ∙ c.from.ensures), ap long c.from-3.ensures)))
+returns c =
+    let whole = refused-length c.args.answer (search rules) (search rules) (search rules) in
+    (rw c.new-text.ensures at c.extend_from_slice.ensures
+    then rw c.from.ensures at c.put_part.ensures
+    then rw c.from-2.ensures at c.put_part-2.ensures
+    then c.put_part-3.ensures
+    then c.push.ensures).is
+    (omega (arith, whole))
