@@ -35,7 +35,7 @@ number_some NodeUnused e = omega arith
 number_some NodeRange e = omega arith
 number_some NodeSort e = omega arith
 
--- the case that has a number
+-- the case that has a number; 0 and 5 have none, and any stands for it
 numbered : ℕ → Number
 numbered n =
     get_or (SheetLength ∷ SheetLength ∷ CountOutside ∷ LevelsWrong ∷ NameWrong ∷ NotUsedOnce ∷ NotUsedOnce ∷ TooDeep ∷ StoreMisfit ∷ MarkWrong ∷ ModeOrFuel ∷ OutShort ∷ FuelSpent ∷ OutOfRange ∷ DivisorZero ∷ NotBelow ∷ PartialTest ∷ ReaderOrRequest ∷ PartialAsked ∷ NodeUnknown ∷ NodeUnused ∷ NodeRange ∷ NodeSort ∷ []) n SheetLength

@@ -81,8 +81,8 @@ impl Answer {
     pub fn pack(self) -> u64
         ensures { result ≡ word_of self }
     {
-        let place = u64::from(self.place) << 8;
-        let units = u64::from(self.units) << 32;
+        let place = u64::from(self.place) * 256;
+        let units = u64::from(self.units) * 4294967296;
         u64::from(self.number) + place + units
     }
 

@@ -50,8 +50,5 @@ pub extern "C" fn beltuqash_hand_out(
 fn word(answer: Result<u32, Refusal>) -> u64
     ensures { result ≡ word_of (answer_of answer) }
 {
-    match answer {
-        Ok(units) => Answer::success(units).pack(),
-        Err(refusal) => Answer::from(refusal).pack(),
-    }
+    Answer::from(answer).pack()
 }

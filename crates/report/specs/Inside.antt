@@ -1,3 +1,3 @@
 -- What only contracts and proofs inside the product cite.
-pub mod Room
+pub mod Putting
 pub mod Given

@@ -1,5 +1,5 @@
 -- Document 01, "Trials": all that the runner program prints for a file.
-use Rattle.std.specs.Prelude.{ℕ, cond, List, replicate}
+use Rattle.std.specs.Prelude.{ℕ, ◌≤◌, ◌≡◌, cond, List, length, take, replicate}
 use Rattle.basis.specs.Numbers as numbers
 use Rattle.basis.specs.Answer.{refusal, Outcome}
 use Rattle.sections.specs.Sections.{fields_of}
@@ -27,3 +27,9 @@ report_of file = cond (is_cut file) (refused_text (refusal numbers.sheet_length 
 -- No text is longer: a first line of 16 bytes and 33 for each of 64 fields.
 abbrev pub longest : ℕ
 longest = 2128
+
+-- The first `end` bytes of a buffer are the text. `counted` follows from `within`, and spares a caller's `&out[..end]` a proof file, as in io's `IsPrefixLen`.
+pub record Begins (out text : List ℕ) (end : ℕ) : Type 0 where
+  pub within : end ≤ length out
+  pub counted : end ≡ length (take end out)
+  pub bytes : take end out ≡ text

@@ -4,29 +4,31 @@ ghost use Rattle.names.specs.Names.{NameIn};
 ghost use Rattle.store.specs.Marks.{mark_of};
 ghost use Rattle.store.specs.Stores.{cell_at, store_length};
 ghost use Rattle.report.specs.Inside.Given.{Entries};
-ghost use Rattle.report.specs.Inside.Room.{Adds};
+ghost use Rattle.report.specs.Inside.Putting.{Put};
 ghost use Rattle.report.specs.Text.{without_zero, name_of, mark_word, mark_text, cell_text, field_line, field_lines};
 
-use crate::text::Text;
+use crate::number::{put_byte, put_part, put_signed, put_text};
 
 // A byte of a name, if it is not zero.
-#[tactic(auto, unfolding(crate::specs::Text::without_zero))]
-fn put_unless_zero(text: &mut Text, byte: u8)
-    ensures { Adds text.old text.new (without_zero byte) }
+fn put_unless_zero(out: &mut [u8], at: usize, byte: u8) -> usize
+    ensures { Put out.old out.new at (without_zero byte) result }
 {
-    if byte != 0 {
-        text.push(byte);
+    if byte == 0 {
+        return at;
     }
+    put_byte(out, at, byte)
 }
 
 // Field i's name.
-fn put_name(text: &mut Text, fields: &[u8], i: usize)
+fn put_name(out: &mut [u8], at: usize, fields: &[u8], i: usize) -> usize
     requires { NameIn fields.now i }
-    ensures { Adds text.old text.new (name_of fields.now i) }
+    ensures { Put out.old out.new at (name_of fields.now i) result }
 {
+    let mut end = at;
     for &byte in &fields[i * 8..i * 8 + 8] {
-        put_unless_zero(text, byte);
+        end = put_unless_zero(out, end, byte);
     }
+    end
 }
 
 // Whether a mark is whole or partial.
@@ -41,41 +43,42 @@ fn mark_word(mark: u32) -> &'static [u8]
 }
 
 // A mark's level, and whether it is whole or partial.
-fn put_mark(text: &mut Text, mark: u32)
-    ensures { Adds text.old text.new (mark_text (mark_of mark)) }
+fn put_mark(out: &mut [u8], at: usize, mark: u32) -> usize
+    ensures { Put out.old out.new at (mark_text (mark_of mark)) result }
 {
-    text.put_part(store::level_said(mark));
-    text.push(b' ');
-    text.extend_from_slice(mark_word(mark));
+    let level = put_part(out, at, store::level_said(mark));
+    let blank = put_byte(out, level, b' ');
+    put_text(out, blank, mark_word(mark))
 }
 
 // Field i's mark and value.
-fn put_cell(text: &mut Text, store: &[u8], i: usize)
+fn put_cell(out: &mut [u8], at: usize, store: &[u8], i: usize) -> usize
     requires { store_length (i + 1) ≤ length store.now }
-    ensures { Adds text.old text.new (cell_text (cell_at store.now i)) }
+    ensures { Put out.old out.new at (cell_text (cell_at store.now i)) result }
 {
-    put_mark(text, store::mark_at(store, i));
-    text.push(b' ');
-    text.put_signed(store::value_at(store, i));
+    let mark = put_mark(out, at, store::mark_at(store, i));
+    let blank = put_byte(out, mark, b' ');
+    put_signed(out, blank, store::value_at(store, i))
 }
 
 // Field i's line.
-fn put_line(text: &mut Text, fields: &[u8], store: &[u8], i: usize)
-    requires name { NameIn fields.now i }
-    requires entry { store_length (i + 1) ≤ length store.now }
-    ensures { Adds text.old text.new (field_line fields.now store.now i) }
+fn put_line(out: &mut [u8], at: usize, fields: &[u8], store: &[u8], i: usize) -> usize
+    requires { NameIn fields.now i × (store_length (i + 1) ≤ length store.now) }
+    ensures { Put out.old out.new at (field_line fields.now store.now i) result }
 {
-    put_name(text, fields, i);
-    put_cell(text, store, i);
-    text.push(b'\n');
+    let name = put_name(out, at, fields, i);
+    let cell = put_cell(out, name, store, i);
+    put_byte(out, cell, b'\n')
 }
 
 /// All fields' lines. Names and store stand apart: of slices in a struct a proof is not told that their items are bytes, which bounds a line.
-pub fn put_lines(text: &mut Text, fields: &[u8], store: &[u8])
+pub fn put_lines(out: &mut [u8], at: usize, fields: &[u8], store: &[u8]) -> usize
     requires { Entries fields.now store.now }
-    ensures { Adds text.old text.new (field_lines fields.now store.now) }
+    ensures { Put out.old out.new at (field_lines fields.now store.now) result }
 {
+    let mut end = at;
     for i in 0..fields.len() / 8 {
-        put_line(text, fields, store, i);
+        end = put_line(out, end, fields, store, i);
     }
+    end
 }

@@ -3,6 +3,7 @@
 
 pub mod field;
 pub mod file;
+pub mod number;
 pub mod outcome;
 pub mod text;
 
@@ -20,8 +21,11 @@ use text::Text;
 pub fn report(file: &[u8]) -> Text
     ensures { result ≡ report_of file.now }
 {
+    let mut text = Text::new();
     let Some(run) = RunFile::parse(file) else {
-        return outcome::refused_text(Answer::refusal(Number::SheetLength.into(), 0));
+        let cut = Answer::refusal(Number::SheetLength.into(), 0);
+        text.len = outcome::print_refused(cut, &mut text.bytes);
+        return text;
     };
     let mut out = [0; LONGEST];
     let answer = beltuqash::run(
@@ -31,5 +35,11 @@ pub fn report(file: &[u8]) -> Text
         run.fuel,
         &mut out,
     );
-    outcome::printed(answer.into(), Parts::of(run.sheet).fields, &out)
+    text.len = outcome::print(
+        answer.into(),
+        Parts::of(run.sheet).fields,
+        &out,
+        &mut text.bytes,
+    );
+    text
 }

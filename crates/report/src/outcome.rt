@@ -1,48 +1,46 @@
 // What comes back from a run, as text: `done` and units with a line per field, or `refused`, number, place and units.
-ghost use Rattle.std.specs.Prelude.{◌≡◌};
+ghost use Rattle.std.specs.Prelude.{◌≤◌, ◌≡◌, length};
 ghost use Rattle.basis.specs.Numbers.{done};
 ghost use Rattle.report.specs.Inside.Given.{Final};
+ghost use Rattle.report.specs.Report.{longest, Begins};
 ghost use Rattle.report.specs.Text.{done_text, refused_text, printed};
 
 use crate::field::put_lines;
-use crate::text::Text;
+use crate::number::{put_byte, put_part, put_text};
 use basis::answer::Answer;
 use basis::numbers::DONE;
 
 /// `done` and units, then a line per field.
-pub fn done_text(units: u32, fields: &[u8], store: &[u8]) -> Text
-    requires { Final fields.now store.now }
-    ensures { result ≡ done_text units fields.now store.now }
+pub fn print_done(units: u32, fields: &[u8], store: &[u8], out: &mut [u8]) -> usize
+    requires { Final fields.now store.now × (longest ≤ length out.old) }
+    ensures { Begins out.new (done_text units fields.now store.now) result }
 {
-    let mut text = Text::new();
-    text.extend_from_slice(b"done");
-    text.put_part(units);
-    text.push(b'\n');
-    put_lines(&mut text, fields, store);
-    text
+    let done = put_text(out, 0, b"done");
+    let spent = put_part(out, done, units);
+    let head = put_byte(out, spent, b'\n');
+    put_lines(out, head, fields, store)
 }
 
 /// `refused`, number, place and units.
-pub fn refused_text(answer: Answer) -> Text
-    ensures { result ≡ refused_text answer }
+pub fn print_refused(answer: Answer, out: &mut [u8]) -> usize
+    requires { longest ≤ length out.old }
+    ensures { Begins out.new (refused_text answer) result }
 {
-    let mut text = Text::new();
-    text.extend_from_slice(b"refused");
-    text.put_part(u32::from(answer.number));
-    text.put_part(u32::from(answer.place));
-    text.put_part(answer.units);
-    text.push(b'\n');
-    text
+    let refused = put_text(out, 0, b"refused");
+    let number = put_part(out, refused, u32::from(answer.number));
+    let place = put_part(out, number, u32::from(answer.place));
+    let units = put_part(out, place, answer.units);
+    put_byte(out, units, b'\n')
 }
 
 /// The text of an answer. What a run that is done gave is at hand.
-pub fn printed(answer: Answer, fields: &[u8], store: &[u8]) -> Text
-    requires { answer.number ≡ done → Final fields.now store.now }
-    ensures { result ≡ printed answer fields.now store.now }
+pub fn print(answer: Answer, fields: &[u8], store: &[u8], out: &mut [u8]) -> usize
+    requires { (answer.number ≡ done → Final fields.now store.now) × (longest ≤ length out.old) }
+    ensures { Begins out.new (printed answer fields.now store.now) result }
 {
     if answer.number == DONE {
-        done_text(answer.units, fields, store)
+        print_done(answer.units, fields, store, out)
     } else {
-        refused_text(answer)
+        print_refused(answer, out)
     }
 }

@@ -1,9 +1,9 @@
--- One byte more at each turn, or none where it is zero.
+-- One byte more at each turn, or none where it is zero; past the last one the name is put.
 use Rattle.std.proofs.Common.{arith, ℕ, List, ◌+◌, ◌-◌, ◌*◌, ◌<◌, ◌≤◌, ◌≡◌, take, drop, length, get_or, sym}
 use Rattle.std.proofs.lemmas.Grind.{common_steps}
 use Rattle.names.specs.Names.{name_byte}
 use Rattle.report.specs.Text.{name_of}
-use Rattle.report.proofs.Adding.{add-none, add_as, ◌then◌, each_none, each_more}
+use Rattle.report.proofs.Putting.{put-none, put_as, ◌then◌, each_none, each_more}
 use Rattle.report.proofs.field.put_name.Goals as goal
 
 -- the part of the fields that is read
@@ -17,12 +17,12 @@ long : (fields : List ℕ) (i : ℕ) → i * 8 + 8 ≤ length fields → length 
 long fields i h = grind (arith, common_steps)
 
 pub loop-byte-init : goal.loop-byte-init
-loop-byte-init c = add_as (sym (each_none _)) (add-none _)
+loop-byte-init c = put_as (sym (each_none _)) (put-none _ _)
 
 pub loop-byte-preserved : goal.loop-byte-preserved
 loop-byte-preserved c =
     let same = byte_same c.args.fields.now c.args.i c.loop-byte.byte-index c.loop-byte-test.true in
-    add_as (each_more _ _) (c.loop-byte.invariant then rw same at c.put_unless_zero.ensures)
+    put_as (each_more _ _) (c.loop-byte.invariant then rw same at c.put_unless_zero-end.ensures)
 
 pub returns : goal.returns
 unfolding name_of

@@ -1,5 +1,5 @@
 -- A tenth of the number is left.
-use Rattle.report.proofs.text.Text.+put_decimal.Given as goal
+use Rattle.report.proofs.number.+put_decimal.Given as goal
 
 abbrev pub decreases-put_decimal : goal.decreases-put_decimal
 decreases-put_decimal l = l.n
