@@ -14,9 +14,10 @@ fn put_unless_zero(out: &mut [u8], at: usize, byte: u8) -> usize
     ensures { Put out.old out.new at (without_zero byte) result }
 {
     if byte == 0 {
-        return at;
+        at
+    } else {
+        put_byte(out, at, byte)
     }
-    put_byte(out, at, byte)
 }
 
 // Field i's name.
@@ -71,7 +72,7 @@ fn put_line(out: &mut [u8], at: usize, fields: &[u8], store: &[u8], i: usize) ->
     put_byte(out, cell, b'\n')
 }
 
-/// All fields' lines. Names and store stand apart: of slices in a struct a proof is not told that their items are bytes, which bounds a line.
+/// All fields' lines.
 pub fn put_lines(out: &mut [u8], at: usize, fields: &[u8], store: &[u8]) -> usize
     requires { Entries fields.now store.now }
     ensures { Put out.old out.new at (field_lines fields.now store.now) result }

@@ -1,4 +1,5 @@
-// Bytes, texts and numbers, put into a lent buffer from an offset on. Each function gives the offset after what it put.
+// Bytes, texts and numbers, put into a lent buffer from an offset on. Each function gives the offset after what it put. Buffer and offset stand apart:
+// a type with a buffer of its own would promise a text up to that buffer's length, and these promise it in any buffer that has room.
 ghost use Rattle.std.specs.Prelude.{◌∷◌, []};
 ghost use Rattle.report.specs.Inside.Putting.{Put};
 ghost use Rattle.report.specs.Text.{decimal, part, signed};

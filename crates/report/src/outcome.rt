@@ -10,7 +10,8 @@ use crate::number::{put_byte, put_part, put_text};
 use basis::answer::Answer;
 use basis::numbers::DONE;
 
-/// `done` and units, then a line per field.
+/// `done` and units, then a line per field. Names and store stand apart: of slices in a struct a proof is not told that their items are bytes, which
+/// bounds a line.
 pub fn print_done(units: u32, fields: &[u8], store: &[u8], out: &mut [u8]) -> usize
     requires { Final fields.now store.now × (longest ≤ length out.old) }
     ensures { Begins out.new (done_text units fields.now store.now) result }

@@ -7,5 +7,5 @@ use Rattle.report.proofs.field.put_unless_zero.Goals as goal
 pub returns-then-byte-eq0 : goal.returns-then-byte-eq0
 returns-then-byte-eq0 c = put_as (sym (zero_none _ c.if-byte-eq0.true)) (put-none _ _)
 
-pub returns : goal.returns
-returns c = put_as (sym (other_one _ c.if-byte-eq0.false)) c.put_byte.ensures
+pub returns-else-byte-eq0 : goal.returns-else-byte-eq0
+returns-else-byte-eq0 c = put_as (sym (other_one _ c.if-byte-eq0.false)) c.put_byte.ensures
